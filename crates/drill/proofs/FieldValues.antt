@@ -1,0 +1,111 @@
+-- What the readers of values answer, step by step.
+use Rattle.std.proofs.Common.{◌≡◌, ◌≢◌, ℕ, ◌-◌, ◌^◌, ◌<◌, ◌≤◌, Bool, true, false, not, ◌&&◌, cond, eqb, ltb, leb, List, [], ◌∷◌, ◌++◌, map, length, get_or, Some, None, Result, Ok, Err, refl, sym, ap, subst, ◌∙◌, arith}
+use Rattle.std.specs.Prelude.{chars, codes, T}
+use Rattle.std.specs.Ordering.{is_lt}
+use Rattle.std.specs.List.{list_all}
+use Rattle.std.specs.FinMap.{entries, entries_sorted, is_sorted}
+use Rattle.std.proofs.lemmas.List.{length-map, get_or-map}
+use Rattle.std.specs.Str.{IsUtf8, bytes_eq, all_ascii_digits}
+use Rattle.std.specs.Str.Parse.{ParsesUnsigned, digits_value}
+use Rattle.std.specs.Result.{OkIff}
+use Rattle.std.proofs.lemmas.Bool.{le-leb, leb-true, lt-ltb, ltb-true, or_parts, and_parts, eqb-false, ne_eqb}
+use Rattle.std.proofs.lemmas.Str.{is_utf8-from_IsUtf8}
+use Rattle.std.proofs.lemmas.Str.Parse.{IsNumeralModel, numerals_by_value, tells_all_ascii_digits, parse_plain}
+use Rattle.rc_tree.specs.Name.{name_fault}
+use Rattle.rc_tree.specs.Path.{key_of, key_cmp, last_name}
+use Rattle.rc_tree.specs.Tree.{Node, Tree}
+use Rattle.rc_tree.proofs.Keys.{key_cmp-total}
+use Rattle.rc_mem.specs.declared.tree.TreeNode.{TreeNode}
+use Rattle.rc_mem.specs.Nodes.{placed}
+use Rattle.drill.proofs.Cuts.{starred_none}
+use Rattle.drill.proofs.Rising.{above_last}
+use Rattle.drill.specs.SiteText.{letters}
+use Rattle.drill.specs.Reading.{number_at, is_numeral, is_padded, name_at, letter_at, flags_at, attr_at, attr_with, content_at, written_at, is_above}
+
+pub numerals : IsNumeralModel (λ ds. all_ascii_digits ds ≡ true) (digits_value 10)
+numerals = numerals_by_value (λ ds. all_ascii_digits ds ≡ true) tells_all_ascii_digits
+
+numeral_is : (text : List ℕ) → is_padded text ≡ false → all_ascii_digits text ≡ true → 0 < length text → is_numeral text ≡ true
+numeral_is text plain digits some = rw (plain, digits, lt-ltb 0 (length text) some) refl
+
+no_plus : (text : List ℕ) → is_padded text ≡ false → get_or text 0 0 ≢ 43
+no_plus text plain = eqb-false (get_or text 0 0) 43 (or_parts (eqb (get_or text 0 0) 43) (eqb (get_or text 0 0) 48 && ltb 1 (length text)) plain).0
+
+none_unless : {A : Type 0} (b : Bool) (x : A) → (b ≡ true → ⊥) → cond b (Some x) None ≡ None
+none_unless true x never = absurd (never refl)
+none_unless false x never = refl
+
+-- a number within the bound
+pub number_ok : {E : Type 0} (greatest n : ℕ) (text : List ℕ) (r : Result ℕ E) → ParsesUnsigned 64 10 text r → is_padded text ≡ false → r ≡ Ok n → n ≤ greatest → number_at greatest text ≡ Some n
+unfolding number_at
+number_ok greatest n text r parses plain ok le =
+    let read : OkIff r ((all_ascii_digits text ≡ true) × (0 < length text) × (digits_value 10 text < 2 ^ 64)) (digits_value 10 text) = parse_plain numerals 64 text r parses (no_plus text plain) in
+    let parts = rw ok at read in
+    let value : n ≡ digits_value 10 text = parts.1 in
+    let within : leb (digits_value 10 text) greatest ≡ true = le-leb (digits_value 10 text) greatest (omega (arith, value)) in
+    rw (numeral_is text plain parts.0.0 parts.0.1, within) (ap Some (sym value))
+
+-- a number above the bound
+pub number_large : {E : Type 0} (greatest n : ℕ) (text : List ℕ) (r : Result ℕ E) → ParsesUnsigned 64 10 text r → is_padded text ≡ false → r ≡ Ok n → greatest < n → number_at greatest text ≡ None
+unfolding number_at
+number_large greatest n text r parses plain ok lt =
+    let read : OkIff r ((all_ascii_digits text ≡ true) × (0 < length text) × (digits_value 10 text < 2 ^ 64)) (digits_value 10 text) = parse_plain numerals 64 text r parses (no_plus text plain) in
+    let parts = rw ok at read in
+    let value : n ≡ digits_value 10 text = parts.1 in
+    none_unless (is_numeral text && leb (digits_value 10 text) greatest) (digits_value 10 text)
+    (λ yes. let le = leb-true (digits_value 10 text) greatest (and_parts (is_numeral text) (leb (digits_value 10 text) greatest) yes).1 in omega (arith, le, value))
+
+-- what is no number
+pub number_none : {E : Type 0} (greatest : ℕ) (text : List ℕ) (r : Result ℕ E) (e : E) → ParsesUnsigned 64 10 text r → is_padded text ≡ false → r ≡ Err e → greatest < 2 ^ 64 → number_at greatest text ≡ None
+unfolding number_at
+number_none greatest text r e parses plain err lt =
+    let read : OkIff r ((all_ascii_digits text ≡ true) × (0 < length text) × (digits_value 10 text < 2 ^ 64)) (digits_value 10 text) = parse_plain numerals 64 text r parses (no_plus text plain) in
+    let not_read = rw err at read in
+    none_unless (is_numeral text && leb (digits_value 10 text) greatest) (digits_value 10 text)
+    (λ yes.
+    let both = and_parts (is_numeral text) (leb (digits_value 10 text) greatest) yes in
+    let rest = (and_parts (not (is_padded text)) (all_ascii_digits text && ltb 0 (length text)) both.0).1 in
+    let parts = and_parts (all_ascii_digits text) (ltb 0 (length text)) rest in
+    let le = leb-true (digits_value 10 text) greatest both.1 in
+    not_read (parts.0, ltb-true 0 (length text) parts.1, omega (arith, le)))
+
+pub name_read : (text : List ℕ) → IsUtf8 text → name_fault (chars text) ≡ None → name_at text ≡ Some (chars text)
+unfolding name_at
+name_read text utf8 named = rw (is_utf8-from_IsUtf8 text utf8, named) refl
+
+-- one more letter in front
+pub flags_more : (c : ℕ) (cs text rest : List ℕ) (b : Bool) (bs : List Bool) (end : List ℕ) → b ≡ (letter_at c text).0 → rest ≡ (letter_at c text).1 → flags_at cs rest ≡ (bs, end) → flags_at (c ∷ cs) text ≡ (b ∷ bs, end)
+unfolding flags_at
+flags_more c cs text rest b bs end found left others =
+    ap (λ (t : List ℕ). ((letter_at c text).0 ∷ (flags_at cs t).0, (flags_at cs t).1)) (sym left)
+    ∙ ap (λ (p : List Bool × List ℕ). ((letter_at c text).0 ∷ p.0, p.1)) others ∙ ap (λ (x : Bool). (x ∷ bs, end)) (sym found)
+
+pub flags_end : (text : List ℕ) → flags_at [] text ≡ ([], text)
+unfolding flags_at
+flags_end text = refl
+
+-- the attributes, where these letters were taken and that is left
+pub attr_read : (text end : List ℕ) (flags : List Bool) → bytes_eq text (codes "-") ≡ false → eqb (length text) 0 ≡ false → flags_at letters text ≡ (flags, end) → attr_at text ≡ cond (eqb (length end) 0) (attr_with flags) None
+unfolding attr_at
+attr_read text end flags dash some taken = rw (dash, some, taken) refl
+
+-- what begins with no `*` is written out
+pub content_plain : (size : ℕ) (text : List ℕ) → size ≢ 0 → ((rest : List ℕ) → text ≢ 42 ∷ rest) → content_at size text ≡ written_at size text
+unfolding content_at
+content_plain size text some other = rw (ne_eqb size 0 some) (starred_none size text other)
+
+pub path_named : (text name : List ℕ) (root path : List (List ℕ)) → IsUtf8 text → name ≡ chars text → name_fault (chars text) ≡ None → root ≡ [] → path ≡ root ++ name ∷ [] → name_at text ≡ Some (last_name path)
+path_named text name root path utf8 is named nothing joined =
+    let one : path ≡ chars text ∷ [] = joined ∙ ap (λ (r : List (List ℕ)). r ++ name ∷ []) nothing ∙ ap (λ (n : List ℕ). n ∷ []) is in
+    name_read text utf8 named ∙ sym (ap (λ (p : List (List ℕ)). Some (last_name p)) one)
+
+-- a key is above all of a tree where it is above that of the last node
+pub is_above_last : (nodes : List TreeNode) (tree : Tree) (key : List (List ℕ)) (last : TreeNode) → map placed nodes ≡ entries tree → 0 < length nodes → last ≡ get_or nodes (length nodes - 1) last → is_above tree key ≡ is_lt (key_cmp (key_of last.path) key)
+unfolding is_above
+is_above_last nodes tree key last shown some is =
+    let sorted : T (is_sorted key_cmp (map placed nodes)) = subst (λ (es : List (List (List ℕ) × Node)). T (is_sorted key_cmp es)) (sym shown) (entries_sorted tree) in
+    let len : length (map placed nodes) ≡ length nodes = length-map nodes placed in
+    let at : get_or (map placed nodes) (length (map placed nodes) - 1) (placed last) ≡ placed last =
+    ap (λ (n : ℕ). get_or (map placed nodes) (n - 1) (placed last)) len ∙ get_or-map placed nodes (length nodes - 1) last (placed last) (omega arith) ∙ ap placed (sym is) in
+    ap (list_all (λ e. is_lt (key_cmp e.0 key))) (sym shown)
+    ∙ above_last key_cmp key_cmp-total key (map placed nodes) (placed last) sorted (omega (arith, len)) ∙ ap (λ (e : List (List ℕ) × Node). is_lt (key_cmp e.0 key)) at

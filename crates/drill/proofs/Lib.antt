@@ -1,0 +1,13 @@
+pub mod Appends
+pub mod ByteSpells
+pub mod Cuts
+pub mod FieldValues
+pub mod FileLaws
+pub mod HexLaws
+pub mod LineSteps
+pub mod Plain
+pub mod Printable
+pub mod Rising
+pub mod Sends
+pub mod SiteLaws
+pub mod Spells

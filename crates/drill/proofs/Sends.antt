@@ -1,0 +1,58 @@
+-- What a sink received, piece by piece.
+use Rattle.std.proofs.Common.{◌≡◌, ℕ, suc, ◌+◌, ◌<◌, List, [], ◌∷◌, ◌++◌, length, map, take, drop, get_or, Result, Ok, Err, refl, sym, ap, ◌∙◌, append_assoc, arith}
+use Rattle.std.specs.Prelude.{OnErr}
+use Rattle.std.specs.List.{flat_map}
+use Rattle.std.specs.FinMap.{entries}
+use Rattle.std.proofs.lemmas.List.{append-nil, length-append, map-append, take-append-le, take-append-drop, take_more, at_drop_more}
+use Rattle.std.proofs.lemmas.List.Concat.{flat_map-append, flat_map-cons}
+use Rattle.rc_tree.specs.Tree.{Node, Tree}
+use Rattle.rc_volume.specs.Streams.{AppendsFront}
+use Rattle.rc_mem.specs.declared.tree.TreeNode.{TreeNode}
+use Rattle.rc_mem.specs.Nodes.{node_of, placed}
+use Rattle.drill.specs.SiteText.{file_line, file_lines}
+
+pub on_err : {T E P : Type 0} (r : Result T E) → P → OnErr r P
+on_err (Ok x) p = tt
+on_err (Err e) p = p
+
+take_behind : (a x : List ℕ) (n : ℕ) → take (length a + n) (a ++ x) ≡ a ++ take n x
+take_behind [] x n = let none : length {A = ℕ} [] + n ≡ n = omega arith in ap (λ (k : ℕ). take k x) none
+take_behind (c ∷ a) x n = let more : length (c ∷ a) + n ≡ suc (length a + n) = omega arith in rw more (ap (λ (t : List ℕ). c ∷ t) (take_behind a x n))
+
+-- a front of a later piece, behind the pieces before
+pub front_in : (old mid new a b c whole : List ℕ) → mid ≡ old ++ a → AppendsFront mid b new → whole ≡ a ++ (b ++ c) → AppendsFront old whole new
+front_in old mid new a b c whole before front is =
+    let n = front.0 in
+    let same : take (length a + n) whole ≡ a ++ take n b = ap (take (length a + n)) is ∙ take_behind a (b ++ c) n ∙ ap (λ (t : List ℕ). a ++ t) (take-append-le n b c front.1) in (
+      length a + n,
+      omega (arith, front.1, ap length is, length-append a (b ++ c), length-append b c),
+      front.2 ∙ ap (λ (t : List ℕ). t ++ take n b) before ∙ append_assoc old a (take n b) ∙ ap (λ (t : List ℕ). old ++ t) (sym same),
+    )
+
+pub front_first : (old new b c whole : List ℕ) → AppendsFront old b new → whole ≡ b ++ c → AppendsFront old whole new
+front_first old new b c whole front is = front_in old old new [] b c whole (sym (append-nil old)) front is
+
+-- The lines of nodes
+
+abbrev pub node_lines : List TreeNode → List ℕ
+node_lines nodes = flat_map file_line (map node_of nodes)
+
+lines-append : (a b : List TreeNode) → node_lines (a ++ b) ≡ node_lines a ++ node_lines b
+lines-append a b = ap (flat_map file_line) (map-append node_of a b) ∙ flat_map-append file_line (map node_of a) (map node_of b)
+
+pub lines_split : (nodes : List TreeNode) (i : ℕ) (d : TreeNode) → i < length nodes → node_lines nodes ≡ node_lines (take i nodes) ++ (file_line (node_of (get_or nodes i d)) ++ node_lines (drop (i + 1) nodes))
+lines_split nodes i d lt =
+    ap node_lines (sym (take-append-drop i nodes)) ∙ lines-append (take i nodes) (drop i nodes)
+    ∙ ap (λ (t : List ℕ). node_lines (take i nodes) ++ t) (at_drop_more node_lines nodes i d lt ∙ flat_map-cons file_line (node_of (get_or nodes i d)) (map node_of (drop (i + 1) nodes)))
+
+pub lines_more : (nodes : List TreeNode) (i : ℕ) (d : TreeNode) → i < length nodes → node_lines (take (i + 1) nodes) ≡ node_lines (take i nodes) ++ file_line (node_of (get_or nodes i d))
+lines_more nodes i d lt =
+    ap node_lines (take_more nodes i d lt) ∙ lines-append (take i nodes) (get_or nodes i d ∷ [])
+    ∙ ap (λ (t : List ℕ). node_lines (take i nodes) ++ t) (flat_map-cons file_line (node_of (get_or nodes i d)) [] ∙ append-nil (file_line (node_of (get_or nodes i d))))
+
+nodes_are : (nodes : List TreeNode) → map (λ e. e.1) (map placed nodes) ≡ map node_of nodes
+nodes_are [] = refl
+nodes_are (n ∷ nodes) = ap (λ (t : List Node). node_of n ∷ t) (nodes_are nodes)
+
+pub node_lines_are : (nodes : List TreeNode) (tree : Tree) → map placed nodes ≡ entries tree → node_lines nodes ≡ file_lines tree
+node_lines_are nodes tree shown = ap (flat_map file_line) (sym (nodes_are nodes) ∙ ap (map (λ e. e.1)) shown)

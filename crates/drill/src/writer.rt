@@ -1,0 +1,220 @@
+//! A site, written line by line.
+
+ghost use Rattle.std.specs.Prelude.{◌≡◌, ◌<◌, ◌++◌, ◌∷◌, [], true, map, OnOk, OnErr, string_bytes, if◌then◌else◌};
+ghost use Rattle.std.specs.List.{flat_map, join_with_byte};
+ghost use Rattle.std.specs.Str.{encode_utf8_all};
+ghost use Rattle.hex.specs.Hex.{encode_lower};
+ghost use Rattle.rc_tree.specs.Path.{last_name};
+ghost use Rattle.rc_volume.specs.Faults.{HasCause};
+ghost use Rattle.rc_volume.specs.Streams.{AppendsFront};
+ghost use Rattle.rc_mem.specs.Nodes.{node_of};
+ghost use Rattle.drill.specs.SiteText.{letters, flags_of, marked, attr_text, hex_text, content_text, props_fields, file_line, file_lines, head_text, site_text};
+
+use crate::values::is_repeated;
+use rc_mem::{Tree, TreeNode};
+use rc_tree::{Attr, Path, Props};
+use rc_volume::{Sink, SinkErr};
+use std::alloc::{AllocError, Global};
+
+// Writes the letter where it is to be there.
+fn put_flag(line: &mut String, has: bool, letter: char) -> Result<(), AllocError>
+    requires { letter < 128 }
+    ensures { OnOk result (string_bytes line.new ≡ string_bytes line.old ++ (if has then letter ∷ [] else [])) }
+{
+    if has { line.push(letter) } else { Ok(()) }
+}
+
+fn put_flags(line: &mut String, attr: Attr) -> Result<(), AllocError>
+    ensures { OnOk result (string_bytes line.new ≡ string_bytes line.old ++ marked letters (flags_of attr)) }
+{
+    put_flag(line, attr.readonly, 'R')?;
+    put_flag(line, attr.archive, 'A')?;
+    put_flag(line, attr.system, 'S')?;
+    put_flag(line, attr.hidden, 'H')?;
+    put_flag(line, attr.compressed, 'C')?;
+    put_flag(line, attr.not_indexed, 'N')?;
+    put_flag(line, attr.encrypted, 'E')?;
+    put_flag(line, attr.temporary, 'T')?;
+    put_flag(line, attr.offline, 'O')?;
+    put_flag(line, attr.sparse, 'P')?;
+    Ok(())
+}
+
+// Writes the letters of the attributes, or `-` where there are none.
+fn put_attr(line: &mut String, attr: Attr) -> Result<(), AllocError>
+    ensures { OnOk result (string_bytes line.new ≡ string_bytes line.old ++ attr_text attr) }
+{
+    let start = line.len();
+    put_flags(line, attr)?;
+    if line.len() == start {
+        line.push('-')?;
+    }
+    Ok(())
+}
+
+// Writes bytes as lower-case hexadecimal.
+fn put_hex(alloc: Global, line: &mut String, bytes: &[u8]) -> Result<(), AllocError>
+    ensures { OnOk result (string_bytes line.new ≡ string_bytes line.old ++ encode_lower bytes.now) }
+{
+    line.push_str(hex::encode(alloc, bytes)?.as_str())
+}
+
+// Writes a security string: its bytes, or `-` where there are none.
+fn put_security(alloc: Global, line: &mut String, bytes: &[u8]) -> Result<(), AllocError>
+    ensures { OnOk result (string_bytes line.new ≡ string_bytes line.old ++ hex_text bytes.now) }
+{
+    if bytes.is_empty() {
+        line.push('-')
+    } else {
+        put_hex(alloc, line, bytes)
+    }
+}
+
+// Writes the content of a file, in its shortest form.
+fn put_content(alloc: Global, line: &mut String, bytes: &[u8]) -> Result<(), AllocError>
+    ensures { OnOk result (string_bytes line.new ≡ string_bytes line.old ++ content_text bytes.now) }
+{
+    if is_repeated(bytes) {
+        line.push('*')?;
+        put_hex(alloc, line, &bytes[..1])
+    } else {
+        put_security(alloc, line, bytes)
+    }
+}
+
+// Writes the last name of a path.
+fn put_name(line: &mut String, path: &Path) -> Result<(), AllocError>
+    ensures { OnOk result (string_bytes line.new ≡ string_bytes line.old ++ encode_utf8_all (last_name path.now)) }
+{
+    match path.names().last() {
+        Some(name) => line.push_str(name.text()),
+        None => Ok(()),
+    }
+}
+
+fn put_props(alloc: Global, line: &mut String, props: &Props) -> Result<(), AllocError>
+    ensures { OnOk result (string_bytes line.new ≡ string_bytes line.old ++ join_with_byte 9 (props_fields props.now)) }
+{
+    put_attr(line, props.attr)?;
+    let created = props.created.units();
+    let written = props.written.units();
+    write!(line, "\t{created}\t{written}\t")?;
+    put_security(alloc, line, props.access.bytes())?;
+    line.push('\t')?;
+    put_security(alloc, line, props.owner.bytes())?;
+    line.push('\t')?;
+    put_security(alloc, line, props.audit.bytes())?;
+    Ok(())
+}
+
+// Writes the line of a file.
+fn put_file(alloc: Global, line: &mut String, node: &TreeNode) -> Result<(), AllocError>
+    ensures { OnOk result (string_bytes line.new ≡ string_bytes line.old ++ file_line (node_of node.now)) }
+{
+    line.push_str("F\t")?;
+    put_name(line, &node.path)?;
+    line.push('\t')?;
+    put_props(alloc, line, &node.props)?;
+    let bytes = node.bytes.as_slice();
+    let size = bytes.len();
+    write!(line, "\t{size}\t")?;
+    put_content(alloc, line, bytes)?;
+    line.push('\n')?;
+    Ok(())
+}
+
+// Writes the lines before those of the source's files.
+fn put_head(line: &mut String, moment: u64) -> Result<(), AllocError>
+    ensures { OnOk result (string_bytes line.new ≡ string_bytes line.old ++ head_text moment) }
+{
+    write!(line, "SITE\t1\nMOMENT\t{moment}\nSOURCE\n")
+}
+
+// Writes them to the sink, in the room of `line`.
+fn send_head<K: Sink>(
+    alloc: Global,
+    out: &mut K,
+    line: &mut String,
+    moment: u64,
+) -> Result<(), SinkErr>
+    ensures written { K.tells ≡ true → OnOk result (K.received out.new ≡ K.received out.old ++ head_text moment) }
+    ensures front { K.tells ≡ true → OnErr result (AppendsFront (K.received out.old) (head_text moment) (K.received out.new)) }
+    ensures cause { HasCause (K.faults out.old) (K.faults out.new) SinkErr.Failed result }
+{
+    line.clear();
+    if put_head(line, moment).is_err() {
+        return Err(SinkErr::NoMemory);
+    }
+    out.write(alloc, line.as_bytes())
+}
+
+// Writes the line of a file to the sink, in the room of `line`.
+fn send_file<K: Sink>(
+    alloc: Global,
+    out: &mut K,
+    line: &mut String,
+    node: &TreeNode,
+) -> Result<(), SinkErr>
+    ensures written { K.tells ≡ true → OnOk result (K.received out.new ≡ K.received out.old ++ file_line (node_of node.now)) }
+    ensures front { K.tells ≡ true → OnErr result (AppendsFront (K.received out.old) (file_line (node_of node.now)) (K.received out.new)) }
+    ensures cause { HasCause (K.faults out.old) (K.faults out.new) SinkErr.Failed result }
+{
+    line.clear();
+    if put_file(alloc, line, node).is_err() {
+        return Err(SinkErr::NoMemory);
+    }
+    out.write(alloc, line.as_bytes())
+}
+
+// Writes the lines of files, each in the room of `line`.
+fn send_files<K: Sink>(
+    alloc: Global,
+    out: &mut K,
+    line: &mut String,
+    nodes: &[TreeNode],
+) -> Result<(), SinkErr>
+    ensures written { K.tells ≡ true → OnOk result (K.received out.new ≡ K.received out.old ++ flat_map file_line (map node_of nodes.now)) }
+    ensures front { K.tells ≡ true → OnErr result (AppendsFront (K.received out.old) (flat_map file_line (map node_of nodes.now)) (K.received out.new)) }
+    ensures cause { HasCause (K.faults out.old) (K.faults out.new) SinkErr.Failed result }
+{
+    for node in nodes {
+        send_file(alloc, out, line, node)?;
+    }
+    Ok(())
+}
+
+// Writes the lines of a tree's files to the sink, and then what ends them.
+fn send_side<K: Sink>(
+    alloc: Global,
+    out: &mut K,
+    line: &mut String,
+    tree: &Tree,
+    end: &str,
+) -> Result<(), SinkErr>
+    ensures written { K.tells ≡ true → OnOk result (K.received out.new ≡ K.received out.old ++ (file_lines tree.now ++ end.now)) }
+    ensures front { K.tells ≡ true → OnErr result (AppendsFront (K.received out.old) (file_lines tree.now ++ end.now) (K.received out.new)) }
+    ensures cause { HasCause (K.faults out.old) (K.faults out.new) SinkErr.Failed result }
+{
+    send_files(alloc, out, line, tree.nodes())?;
+    out.write(alloc, end.as_bytes())?;
+    Ok(())
+}
+
+/// Writes the site text of a moment and two trees.
+pub fn write_site<K: Sink>(
+    alloc: Global,
+    out: &mut K,
+    moment: u64,
+    source: &Tree,
+    target: &Tree,
+) -> Result<(), SinkErr>
+    ensures written { K.tells ≡ true → OnOk result (K.received out.new ≡ K.received out.old ++ site_text moment source.now target.now) }
+    ensures front { K.tells ≡ true → OnErr result (AppendsFront (K.received out.old) (site_text moment source.now target.now) (K.received out.new)) }
+    ensures cause { HasCause (K.faults out.old) (K.faults out.new) SinkErr.Failed result }
+{
+    let mut line = String::new(alloc);
+    send_head(alloc, out, &mut line, moment)?;
+    send_side(alloc, out, &mut line, source, "TARGET\n")?;
+    send_side(alloc, out, &mut line, target, "RECORD\t-\nEND\n")?;
+    Ok(())
+}

@@ -1,0 +1,10 @@
+pub mod JobLists
+pub mod Listings
+pub mod Maps
+pub mod NodeLists
+pub mod Order
+pub mod Places
+pub mod Searches
+pub mod Sites
+pub mod Streams
+pub mod Trees

@@ -1,0 +1,316 @@
+ghost use Rattle.std.specs.Prelude.{◌≡◌, true, IsTrue, IfOk, IsSomeAnd, All};
+ghost use Rattle.std.specs.FinMap.{entries};
+ghost use Rattle.std.specs.declared.cmp.Ordering.TheVariants.{Less};
+ghost use Rattle.rc_tree.specs.Path.{key_of, key_cmp, parent_of};
+ghost use Rattle.rc_tree.specs.Tree.{IsDirectory};
+ghost use Rattle.rc_volume.specs.Site.{tree_of};
+
+use crate::{FixedClock, MemInput, MemJobs, MemSink, MemSite, Tree, TreeNode};
+use rc_tree::{Attr, Kind, Moment, Name, Path, Props, Security, Text};
+use rc_volume::{Clock, Input, JobStore, Ranges, Reader, Side, Sink, Site, Want};
+use std::alloc::Global;
+use std::test::Fail;
+
+// The properties of an entry that was written at 7.
+fn written_at_seven(alloc: Global) -> Props {
+    Props {
+        attr: Attr {
+            hidden: true,
+            ..Attr::NONE
+        },
+        created: Moment::new(0),
+        written: Moment::new(7),
+        access: Security::empty(alloc),
+        owner: Security::empty(alloc),
+        audit: Security::empty(alloc),
+    }
+}
+
+fn is_directory(tree: &Tree, path: &Path) -> bool
+    ensures { IsTrue result → IsDirectory tree.now (key_of path.now) }
+{
+    if path.names().is_empty() {
+        return true;
+    }
+    match tree.get(path) {
+        Some(node) => node.kind == Kind::Dir,
+        None => false,
+    }
+}
+
+// Whether the directory is there in which an entry at this path would stand.
+fn has_parent(alloc: Global, tree: &Tree, path: &Path) -> Result<bool, Fail>
+    ensures { IfOk result (λ has. IsTrue has → IsSomeAnd (parent_of path.now) (λ parent. IsDirectory tree.now (key_of parent))) }
+{
+    match path.parent(alloc)? {
+        Some(parent) => Ok(is_directory(tree, &parent)),
+        None => Ok(false),
+    }
+}
+
+fn is_above_all(tree: &Tree, path: &Path) -> bool
+    ensures { IsTrue result → All (λ entry. key_cmp entry.0 (key_of path.now) ≡ Less) (entries tree.now) }
+{
+    for node in tree.nodes() {
+        if !node.path.cmp(path).is_lt() {
+            return false;
+        }
+    }
+    true
+}
+
+// Adds an entry at the end, where it may stand there.
+fn add(alloc: Global, tree: &mut Tree, path: &str, kind: Kind, bytes: &[u8]) -> Result<(), Fail> {
+    let path = Path::read(alloc, path)?;
+    if kind == Kind::Dir && !bytes.is_empty() {
+        return Err("a directory with bytes")?;
+    }
+    if !has_parent(alloc, tree, &path)? || !is_above_all(tree, &path) {
+        return Err("no place for an entry")?;
+    }
+    tree.add(TreeNode {
+        path,
+        kind,
+        bytes: bytes.to_vec(alloc)?,
+        props: written_at_seven(alloc),
+    })?;
+    Ok(())
+}
+
+// A site with the files a, B\x, B\Y and c as its source.
+fn sample(alloc: Global) -> Result<MemSite, Fail> {
+    let mut tree = Tree::new(alloc);
+    for (path, kind, bytes) in [
+        ("a", Kind::File, b"alpha".as_slice()),
+        ("B", Kind::Dir, b"".as_slice()),
+        ("B\\x", Kind::File, b"".as_slice()),
+        ("B\\Y", Kind::File, b"beta".as_slice()),
+        ("c", Kind::File, b"".as_slice()),
+    ] {
+        add(alloc, &mut tree, path, kind, bytes)?;
+    }
+    let site = MemSite::new(alloc, tree, Tree::new(alloc), b"notes".to_vec(alloc)?)?;
+    Ok(site)
+}
+
+// The names in a directory of the source behind one of them, in the order in which a listing shows them.
+fn list<S: Site>(
+    alloc: Global,
+    site: &mut S,
+    dir: &Path,
+    after: Option<Name>,
+) -> Result<String, Fail>
+    requires { S.tells ≡ true → IsDirectory (tree_of (S.told site.old) Side.Source) (key_of dir.now) }
+{
+    let mut names = String::new(alloc);
+    let mut after = after;
+    for _ in 0..9 {
+        let Some(entry) = site.next_entry(alloc, Side::Source, dir, after.as_ref())? else {
+            break;
+        };
+        names.push_str(entry.name.text())?;
+        names.push(' ')?;
+        after = Some(entry.name);
+    }
+    Ok(names)
+}
+
+#[test]
+fn lists_by_folded_names(rt: HostRuntime) -> Result<(), Fail> {
+    let alloc = rt.alloc();
+    let mut site = sample(alloc)?;
+    for (dir, after, want) in [
+        ("", "", "a B c "),
+        ("", "A", "B c "),
+        ("", "b", "c "),
+        ("", "aa", "B c "),
+        ("", "C", ""),
+        ("", "z", ""),
+        ("b", "", "x Y "),
+        ("B", "X", "Y "),
+        ("B", "y", ""),
+    ] {
+        let dir = Path::read(alloc, dir)?;
+        let after = if after.is_empty() {
+            None
+        } else {
+            Some(Name::read(alloc, after)?)
+        };
+        if is_directory(site.tree(Side::Source), &dir) {
+            let names = list(alloc, &mut site, &dir, after)?;
+            assert_eq!(rt; names.as_str(), want);
+        }
+    }
+    Ok(())
+}
+
+// Makes a file, where it may stand there.
+fn make(alloc: Global, site: &mut MemSite, path: &Path) -> Result<(), Fail> {
+    let tree = site.tree(Side::Source);
+    if !has_parent(alloc, tree, path)? || tree.get(path).is_some() {
+        return Err("no place for a file")?;
+    }
+    site.make_file(alloc, Side::Source, path)?;
+    Ok(())
+}
+
+// Writes bytes within a file.
+fn put(
+    alloc: Global,
+    site: &mut MemSite,
+    path: &Path,
+    off: usize,
+    bytes: &[u8],
+) -> Result<(), Fail> {
+    let node = site.tree(Side::Source).get(path).ok_or("no file")?;
+    let room = node.bytes.len().saturating_sub(off);
+    if node.kind == Kind::Dir || bytes.is_empty() || room < bytes.len() {
+        return Err("no place for bytes")?;
+    }
+    site.put(alloc, Side::Source, path, off as u64, bytes)?;
+    Ok(())
+}
+
+// Brings a file to a length of at most 1000 bytes.
+fn set_len(alloc: Global, site: &mut MemSite, path: &Path, len: u64) -> Result<(), Fail> {
+    let node = site.tree(Side::Source).get(path).ok_or("no file")?;
+    if node.kind == Kind::Dir || len > 1000 {
+        return Err("no file")?;
+    }
+    site.set_len(alloc, Side::Source, path, len)?;
+    Ok(())
+}
+
+fn set_props(alloc: Global, site: &mut MemSite, path: &Path, props: &Props) -> Result<(), Fail> {
+    if site.tree(Side::Source).get(path).is_none() {
+        return Err("no entry")?;
+    }
+    site.set_props(alloc, Side::Source, path, props)?;
+    Ok(())
+}
+
+#[test]
+fn changes_one_file(rt: HostRuntime) -> Result<(), Fail> {
+    let alloc = rt.alloc();
+    let mut site = sample(alloc)?;
+    let path = Path::read(alloc, "b\\xa")?;
+    make(alloc, &mut site, &path)?;
+    let names = list(alloc, &mut site, &Path::root(alloc), None)?;
+    assert_eq!(rt; names.as_str(), "a B c ");
+    for (len, off, bytes, want) in [
+        (5, 1, b"ig".as_slice(), b"\0ig\0\0".as_slice()),
+        (2, 0, b"k".as_slice(), b"ki".as_slice()),
+        (4, 3, b"d".as_slice(), b"ki\0d".as_slice()),
+    ] {
+        set_len(alloc, &mut site, &path, len)?;
+        put(alloc, &mut site, &path, off, bytes)?;
+        let node = site.tree(Side::Source).get(&path).ok_or("no file")?;
+        assert_eq!(rt; node.bytes.as_slice(), want);
+        assert_eq!(rt; node.props.written.units(), 0);
+    }
+    set_props(alloc, &mut site, &path, &written_at_seven(alloc))?;
+    let node = site.tree(Side::Source).get(&path).ok_or("no file")?;
+    assert!(rt; node.props.attr.hidden);
+    assert_eq!(rt; node.props.written.units(), 7);
+    assert!(rt; site.tree(Side::Target).nodes().is_empty());
+    Ok(())
+}
+
+// What a reader of the bytes 1 to 3 of a file reads.
+fn read_three(alloc: Global, site: &mut MemSite, path: &Path) -> Result<[u8; 3], Fail> {
+    let node = site.tree(Side::Source).get(path).ok_or("no file")?;
+    if node.kind == Kind::Dir || node.bytes.len() < 4 {
+        return Err("too short")?;
+    }
+    let wants = vec![in alloc;
+        Want {
+            path: path.copy(alloc)?,
+            ranges: Ranges::new([(1, 3)].to_vec(alloc)?),
+        },
+    ]?;
+    let reader = site.reader(alloc, wants)?;
+    let mut tally = reader.tally();
+    let mut bytes = [0; 3];
+    reader.fill(alloc, &mut tally, path, 0, 1, &mut bytes)?;
+    site.absorb(tally);
+    Ok(bytes)
+}
+
+#[test]
+fn reads_a_part(rt: HostRuntime) -> Result<(), Fail> {
+    let alloc = rt.alloc();
+    let mut site = sample(alloc)?;
+    let path = Path::read(alloc, "A")?;
+    let bytes = read_three(alloc, &mut site, &path)?;
+    assert_eq!(rt; bytes.as_slice(), b"lph".as_slice());
+    assert_eq!(rt; site.opened().len(), 1);
+    assert_eq!(rt; site.notes(), b"notes".as_slice());
+    assert_eq!(rt; site.record_len(alloc)?, 5);
+    Ok(())
+}
+
+fn receive<K: Sink>(alloc: Global, sink: &mut K, parts: &[&[u8]]) -> Result<(), Fail> {
+    for part in parts {
+        sink.write(alloc, part)?;
+    }
+    Ok(())
+}
+
+fn take<I: Input>(alloc: Global, input: &mut I) -> Result<Vec<u8>, Fail> {
+    let mut taken = Vec::new(alloc);
+    for _ in 0..9 {
+        let mut buf = [0; 3];
+        let count = input.read(alloc, &mut buf)?;
+        taken.extend_from_slice(&buf[..count])?;
+        taken.push(b'|')?;
+    }
+    Ok(taken)
+}
+
+fn pause_and_ask<C: Clock>(clock: &mut C) -> u64 {
+    clock.pause(1);
+    clock.moment()
+}
+
+#[test]
+fn streams_bytes(rt: HostRuntime) -> Result<(), Fail> {
+    let alloc = rt.alloc();
+    let mut sink = MemSink::new(alloc);
+    receive(alloc, &mut sink, &[b"one ", b"", b"two"])?;
+    assert_eq!(rt; sink.bytes(), b"one two".as_slice());
+    let mut input = MemInput::new(b"abcd".to_vec(alloc)?);
+    let taken = take(alloc, &mut input)?;
+    assert_eq!(rt; taken.as_slice(), b"abc|d||||||||".as_slice());
+    let mut clock = FixedClock::new(9);
+    assert_eq!(rt; pause_and_ask(&mut clock), 9);
+    Ok(())
+}
+
+fn keep<J: JobStore>(alloc: Global, jobs: &mut J, name: &str, bytes: &[u8]) -> Result<(), Fail> {
+    let name = Text::of(alloc, name)?;
+    jobs.write(alloc, &name, bytes)?;
+    Ok(())
+}
+
+#[test]
+fn keeps_the_first_spelling(rt: HostRuntime) -> Result<(), Fail> {
+    let alloc = rt.alloc();
+    let mut jobs = MemJobs::new(alloc);
+    for (name, bytes) in [
+        ("beta", b"1".as_slice()),
+        ("Alpha", b"22".as_slice()),
+        ("BETA", b"333".as_slice()),
+    ] {
+        keep(alloc, &mut jobs, name, bytes)?;
+    }
+    let mut names = String::new(alloc);
+    for job in jobs.files() {
+        names.push_str(job.name.text())?;
+        names.push(' ')?;
+    }
+    assert_eq!(rt; names.as_str(), "Alpha beta ");
+    let found = jobs.read(alloc, &Text::of(alloc, "bEtA")?)?;
+    assert_eq!(rt; found.ok_or("no job")?.as_slice(), b"333".as_slice());
+    assert!(rt; jobs.read(alloc, &Text::of(alloc, "gamma")?)?.is_none());
+    Ok(())
+}

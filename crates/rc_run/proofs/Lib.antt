@@ -1,0 +1,10 @@
+pub mod AnswerLemmas
+pub mod CauseLemmas
+pub mod CopyLemmas
+pub mod EachLemmas
+pub mod GoalLemmas
+pub mod ListLemmas
+pub mod OutcomeLemmas
+pub mod ReportLemmas
+pub mod TextLemmas
+pub mod WordLemmas

@@ -1,0 +1,16 @@
+use Rattle.std.proofs.Common.{◌≡◌, ℕ, ◌≤◌, List, true, length, take}
+use Rattle.std.specs.FinMap.{get}
+use Rattle.rc_volume.specs.declared.site.Part.{Part}
+use Rattle.rc_run.specs.Steps.{copied_over}
+use Rattle.rc_run.proofs.copying.copy_each.Given as goal
+
+abbrev pub invariant-loop-file : goal.invariant-loop-file
+invariant-loop-file g l = record {
+  copied : g.S.Site.tells ≡ true → (key : List (List ℕ)) → get (g.S.Site.told l.site).target key ≡ copied_over (take l.file-index l.files) (g.S.Reader.Reader.bytes l.reader) (g.S.Site.told l.fn.site).target key;
+  source : g.S.Site.tells ≡ true → (g.S.Site.told l.site).source ≡ (g.S.Site.told l.fn.site).source;
+  notes : g.S.Site.tells ≡ true → (g.S.Site.told l.site).notes ≡ (g.S.Site.told l.fn.site).notes;
+  opened : g.S.Site.opened l.site ≡ g.S.Site.opened l.fn.site;
+  counts : (part : Part) → g.S.Site.faults l.fn.site part ≤ g.S.Site.faults l.site part;
+  tally : g.S.Reader.Reader.count l.fn.tally ≤ g.S.Reader.Reader.count l.tally;
+  buffer : length l.buf ≡ length l.fn.buf;
+}

@@ -1,0 +1,33 @@
+use Rattle.std.proofs.Common.{[], codes, refl, arith}
+use Rattle.std.specs.Str.{chars}
+use Rattle.rc_run.specs.declared.outcome.Outcome.TheVariants.{Done, NotYet, RootFault, ListFault, RecordFault, SiteFault, SinkFault, NoMemory}
+use Rattle.rc_run.proofs.OutcomeLemmas.{chars_made, not_yet_chars, root_chars, list_chars, site_chars}
+use Rattle.rc_run.proofs.outcome.line_of.Goals as goal
+
+pub returns-in-Done : goal.returns-in-Done
+unfolding chars
+returns-in-Done c = chars_made c.from_str.result [] c.args.outcome.now (Done c.in-Done.bits c.in-Done.moment) c.in-Done.is refl c.from_str.ensures.ok
+
+pub returns-in-NotYet : goal.returns-in-NotYet
+returns-in-NotYet c = chars_made c.not_yet_line.result _ c.args.outcome.now (NotYet c.in-NotYet.what) c.in-NotYet.is (not_yet_chars c.in-NotYet.what (omega arith)) c.not_yet_line.ensures
+
+pub returns-in-RootFault : goal.returns-in-RootFault
+returns-in-RootFault c = chars_made c.fault_line.result _ c.args.outcome.now (RootFault c.in-RootFault.side) c.in-RootFault.is (root_chars c.in-RootFault.side) c.fault_line.ensures
+
+pub returns-in-ListFault : goal.returns-in-ListFault
+returns-in-ListFault c = chars_made c.fault_line-in-ListFault.result _ c.args.outcome.now (ListFault c.in-ListFault.side) c.in-ListFault.is (list_chars c.in-ListFault.side) c.fault_line-in-ListFault.ensures
+
+pub returns-in-RecordFault : goal.returns-in-RecordFault
+unfolding chars
+returns-in-RecordFault c = chars_made c.from_str-in-RecordFault.result (codes "ERROR: record fault") c.args.outcome.now RecordFault c.in-RecordFault.is refl c.from_str-in-RecordFault.ensures.ok
+
+pub returns-in-SiteFault : goal.returns-in-SiteFault
+returns-in-SiteFault c = chars_made c.fault_line-in-SiteFault.result _ c.args.outcome.now (SiteFault c.in-SiteFault.side) c.in-SiteFault.is (site_chars c.in-SiteFault.side) c.fault_line-in-SiteFault.ensures
+
+pub returns-in-SinkFault : goal.returns-in-SinkFault
+unfolding chars
+returns-in-SinkFault c = chars_made c.from_str-in-SinkFault.result (codes "ERROR: report fault") c.args.outcome.now SinkFault c.in-SinkFault.is refl c.from_str-in-SinkFault.ensures.ok
+
+pub returns-in-NoMemory : goal.returns-in-NoMemory
+unfolding chars
+returns-in-NoMemory c = chars_made c.from_str-in-NoMemory.result (codes "ERROR: no memory") c.args.outcome.now NoMemory c.in-NoMemory.is refl c.from_str-in-NoMemory.ensures.ok

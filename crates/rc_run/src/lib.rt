@@ -1,0 +1,17 @@
+//! The run of a mirror, from words and a site to the mirrored trees, the report and the exit bits.
+//!
+//! [`mirror_alone`] promises that at `Done` both trees are, key by key, the goals that the definitions of this crate
+//! give from the two trees on which it started, and that the report and the bits are those of the same decisions.
+#![tactic(auto)]
+
+mod copying;
+mod listing;
+mod outcome;
+mod report;
+mod run;
+#[cfg(test)]
+mod tests;
+mod words;
+
+pub use outcome::{Outcome, outcome_text, status};
+pub use run::{Ended, mirror_alone};

@@ -1,0 +1,107 @@
+ghost use Rattle.std.specs.Prelude.{◌≡◌, ◌++◌, IfOk, chars, codes, decimal, string_bytes};
+ghost use Rattle.rc_run.specs.Outcome.{status_of, line_of, side_name};
+
+use rc_tree::{NoMemory, Text};
+use rc_volume::Side;
+use std::alloc::{AllocError, Global};
+
+/// How a run ended.
+#[derive(Debug, Drop)]
+pub enum Outcome {
+    /// The trees are the goals of those on which the run began. `bits` are the exit bits, and `moment` is when the
+    /// run began, in 100-nanosecond units since 1601.
+    Done { bits: u8, moment: u64 },
+    /// The words were refused: of the command line where `file` is empty, and else of that job file; the word's number
+    /// from 1, or 0 where no one word is at fault; and the kind of the refusal.
+    Usage { file: Text, place: u64, kind: u8 },
+    /// What was asked is not built yet.
+    NotYet { what: u8 },
+    /// A root could not be bound.
+    RootFault { side: Side },
+    /// A directory could not be listed.
+    ListFault { side: Side },
+    /// The record failed.
+    RecordFault,
+    /// A tree could not be read or changed.
+    SiteFault { side: Side },
+    /// The report could not be written. The trees are as after `Done`.
+    SinkFault,
+    NoMemory,
+}
+
+/// The exit status: the bits at `Done`, 32 where memory ran out, and else 16.
+pub fn status(outcome: &Outcome) -> u8
+    ensures { result ≡ status_of outcome.now }
+{
+    match outcome {
+        Outcome::Done { bits, .. } => *bits,
+        Outcome::NoMemory => 32,
+        _ => 16,
+    }
+}
+
+/// The line of a refusal or a fault, without a line end; the empty text at `Done`.
+pub fn outcome_text(alloc: Global, outcome: &Outcome) -> Result<Text, NoMemory>
+    ensures { IfOk result (λ text. text ≡ line_of outcome.now) }
+{
+    let line = line_of(alloc, outcome)?;
+    Text::of(alloc, line.as_str())
+}
+
+fn line_of(alloc: Global, outcome: &Outcome) -> Result<String, AllocError>
+    ensures { IfOk result (λ line. chars (string_bytes line) ≡ line_of outcome.now) }
+{
+    match outcome {
+        Outcome::Done { .. } => String::from_str(alloc, ""),
+        Outcome::Usage { file, place, kind } => usage_line(alloc, file, *place, *kind),
+        Outcome::NotYet { what } => not_yet_line(alloc, *what),
+        Outcome::RootFault { side } => fault_line(alloc, "root", *side),
+        Outcome::ListFault { side } => fault_line(alloc, "listing", *side),
+        Outcome::RecordFault => String::from_str(alloc, "ERROR: record fault"),
+        Outcome::SiteFault { side } => fault_line(alloc, "volume", *side),
+        Outcome::SinkFault => String::from_str(alloc, "ERROR: report fault"),
+        Outcome::NoMemory => String::from_str(alloc, "ERROR: no memory"),
+    }
+}
+
+// The line of a refused word, of the command line or of a job file.
+fn usage_line(alloc: Global, file: &Text, place: u64, kind: u8) -> Result<String, AllocError>
+    ensures { IfOk result (λ line. chars (string_bytes line) ≡ line_of (Outcome.Usage file.now place kind)) }
+{
+    let mut line = word_line(alloc, place, kind)?;
+    let file = file.text();
+    if !file.is_empty() {
+        line.push_str(" of job file ")?;
+        line.push_str(file)?;
+    }
+    Ok(line)
+}
+
+// The part of that line that both have.
+fn word_line(alloc: Global, place: u64, kind: u8) -> Result<String, AllocError>
+    ensures { IfOk result (λ line. string_bytes line ≡ codes "ERROR: usage U" ++ decimal kind ++ codes " at word " ++ decimal place) }
+{
+    format!(in alloc; "ERROR: usage U{kind} at word {place}")
+}
+
+fn not_yet_line(alloc: Global, what: u8) -> Result<String, AllocError>
+    ensures { IfOk result (λ line. string_bytes line ≡ codes "ERROR: not built yet: " ++ decimal what) }
+{
+    format!(in alloc; "ERROR: not built yet: {what}")
+}
+
+fn fault_line(alloc: Global, what: &str, side: Side) -> Result<String, AllocError>
+    ensures { IfOk result (λ line. string_bytes line ≡ codes "ERROR: " ++ what.now ++ codes " fault: " ++ side_name side) }
+{
+    let side = side_name(side);
+    format!(in alloc; "ERROR: {what} fault: {side}")
+}
+
+fn side_name(side: Side) -> &'static str
+    ensures { result.now ≡ side_name side }
+{
+    match side {
+        Side::Source => "source",
+        Side::Target => "target",
+    }
+}

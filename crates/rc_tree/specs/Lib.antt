@@ -1,0 +1,5 @@
+pub mod Attr
+pub mod Codes
+pub mod Name
+pub mod Path
+pub mod Tree
