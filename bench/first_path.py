@@ -1,8 +1,9 @@
 #!/usr/bin/env python3
 """Measures the program drill on site texts: its time and its memory as they grow.
 
-bench/first_path.py           10,000 and then 20,000 files of 1 KiB in the source's root
-bench/first_path.py --large   few long files: 50 MB and then 100 MB of text
+bench/first_path.py             10,000 and then 20,000 files of 1 KiB in the source's root
+bench/first_path.py --standing  the same with as many older files on the target
+bench/first_path.py --large     few long files: 50 MB and then 100 MB of text
 
 For each text it prints the least time of three runs of drill, that time over the one before, and the peak memory over
 the text's size. The program has to be built: ./run drill SRC DST < samples/first.site
@@ -19,6 +20,7 @@ from pathlib import Path
 
 PROGRAM = Path(__file__).resolve().parent.parent / "crates" / "drill" / "out" / "drill"
 MOMENT = "133485408000000000"
+BEFORE = "133485407990000000"
 MB = 1_000_000
 LONG_FILE = 5 * MB
 RUNS = 3
@@ -29,17 +31,21 @@ def content(seed, size):
     return hashlib.shake_128(str(seed).encode()).digest(size)
 
 
-def file_line(name, data):
-    return "\t".join(["F", name, "A", MOMENT, MOMENT, "-", "-", "-", str(len(data)), data.hex()]) + "\n"
+def file_line(name, written, data):
+    return "\t".join(["F", name, "A", MOMENT, written, "-", "-", "-", str(len(data)), data.hex()]) + "\n"
 
 
-def write_site(path, sizes):
-    """Writes a site text whose source has files of these sizes, and whose target is empty."""
+def write_site(path, sizes, standing):
+    """Writes a site text whose source has files of these sizes. The target is empty, or has older files of the same
+    names, each a little longer."""
     with open(path, "w", newline="\n") as out:
         out.write(f"SITE\t1\nMOMENT\t{MOMENT}\nSOURCE\n")
         for number, size in enumerate(sizes):
-            out.write(file_line(f"f{number:08}", content(number, size)))
-        out.write("TARGET\nRECORD\t-\nEND\n")
+            out.write(file_line(f"f{number:08}", MOMENT, content(number, size)))
+        out.write("TARGET\n")
+        for number, size in enumerate(sizes) if standing else ():
+            out.write(file_line(f"F{number:08}", BEFORE, content(-number - 1, size + 10)))
+        out.write("RECORD\t-\nEND\n")
 
 
 def drill(text):
@@ -56,24 +62,31 @@ def drill(text):
     return seconds, usage.ru_maxrss * 1024
 
 
+def files_of_source(lines):
+    """The lines of files named as the source names its own."""
+    return (line for line in lines if line.startswith(b"F\tf"))
+
+
 def check_output(text, out):
-    """Looks whether the target at the end is the source of the text. It goes line by line: a process that is started
-    counts the memory of the one that starts it as its own peak."""
+    """Looks whether the target at the end is the source of the text, but for the spelling of names that stood. It goes
+    line by line: a process that is started counts the memory of the one that starts it as its own peak."""
     out.seek(0)
     for line in out:
         if line == b"TARGET\n":
             break
     with open(text, "rb") as site:
         files = (line for line in site if line.startswith(b"F\t"))
-        for wanted in chain(files, [b"RECORD\t-\n", b"END\n", b""]):
-            if out.readline() != wanted:
+        for wanted in chain(files_of_source(files), [b"RECORD\t-\n", b"END\n", b""]):
+            if out.readline() not in (wanted, wanted.replace(b"F\tf", b"F\tF", 1)):
                 sys.exit("the target is not the source")
 
 
 def main():
     args = argparse.ArgumentParser(description=__doc__, formatter_class=argparse.RawDescriptionHelpFormatter)
     args.add_argument("--large", action="store_true", help="few long files in place of many short ones")
-    if args.parse_args().large:
+    args.add_argument("--standing", action="store_true", help="older files of the same names on the target")
+    options = args.parse_args()
+    if options.large:
         cases = [("50 MB of text", [LONG_FILE] * 5), ("100 MB of text", [LONG_FILE] * 10)]
     else:
         cases = [("10,000 files", [1024] * 10_000), ("20,000 files", [1024] * 20_000)]
@@ -83,7 +96,7 @@ def main():
     with tempfile.TemporaryDirectory() as folder:
         for label, sizes in cases:
             text = Path(folder) / "site"
-            write_site(text, sizes)
+            write_site(text, sizes, options.standing)
             runs = [drill(text) for _ in range(RUNS)]
             seconds = min(run[0] for run in runs)
             peak = max(run[1] for run in runs)

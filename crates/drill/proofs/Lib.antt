@@ -1,6 +1,7 @@
 pub mod Appends
 pub mod ByteSpells
 pub mod Cuts
+pub mod Drills
 pub mod FieldValues
 pub mod FileLaws
 pub mod HexLaws

@@ -1,2 +1,4 @@
+pub mod Drilling
+pub mod Finishing
 pub mod Reading
 pub mod SiteText

@@ -8,6 +8,8 @@ mod drill_tests;
 mod err;
 mod fields;
 mod reader;
+#[cfg(test)]
+mod row_tests;
 mod run;
 mod site_file;
 #[cfg(test)]

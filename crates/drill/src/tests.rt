@@ -1,4 +1,3 @@
-use crate::err::SiteTextErr;
 use crate::reader::read_site;
 use crate::writer::write_site;
 use rc_mem::MemSink;
@@ -23,7 +22,7 @@ fn back(rt: &HostRuntime, text: &str) -> Result<String, Fail> {
 }
 
 // A site text with these lines in the source.
-fn with_source(rt: &HostRuntime, lines: &str) -> Result<String, Fail> {
+pub fn with_source(rt: &HostRuntime, lines: &str) -> Result<String, Fail> {
     Ok(format!(in rt.alloc(); "SITE\t1\nMOMENT\t0\nSOURCE\n{lines}TARGET\nRECORD\t-\nEND\n")?)
 }
 
@@ -84,86 +83,5 @@ fn fills_repeated_bytes(rt: HostRuntime) -> Result<(), Fail> {
         assert_eq!(rt; node.bytes.len(), 1000000);
         assert!(rt; node.bytes.iter().all(|byte| *byte == b'a'));
     }
-    Ok(())
-}
-
-// Lines that no source has.
-const BAD_LINES: [&str; 38] = [
-    "\n",
-    "F\n",
-    "D\ta\t-\t0\t0\t-\t-\t-\n",
-    "f\ta\t-\t0\t0\t-\t-\t-\t0\t-\n",
-    "F\ta\t-\t0\t0\t-\t-\t-\t0\n",
-    "F\ta\t-\t0\t0\t-\t-\t-\t0\t-\t\n",
-    "F\ta\t-\t0\t0\t-\t-\t-\t0\t-\r\n",
-    "F\t\t-\t0\t0\t-\t-\t-\t0\t-\n",
-    "F\ta\\b\t-\t0\t0\t-\t-\t-\t0\t-\n",
-    "F\ta?\t-\t0\t0\t-\t-\t-\t0\t-\n",
-    "F\t..\t-\t0\t0\t-\t-\t-\t0\t-\n",
-    "F\ta\t\t0\t0\t-\t-\t-\t0\t-\n",
-    "F\ta\tAR\t0\t0\t-\t-\t-\t0\t-\n",
-    "F\ta\tAA\t0\t0\t-\t-\t-\t0\t-\n",
-    "F\ta\tA-\t0\t0\t-\t-\t-\t0\t-\n",
-    "F\ta\ta\t0\t0\t-\t-\t-\t0\t-\n",
-    "F\ta\tX\t0\t0\t-\t-\t-\t0\t-\n",
-    "F\ta\t-\t\t0\t-\t-\t-\t0\t-\n",
-    "F\ta\t-\t00\t0\t-\t-\t-\t0\t-\n",
-    "F\ta\t-\t01\t0\t-\t-\t-\t0\t-\n",
-    "F\ta\t-\t+1\t0\t-\t-\t-\t0\t-\n",
-    "F\ta\t-\t-1\t0\t-\t-\t-\t0\t-\n",
-    "F\ta\t-\t0\t2650467744000000000\t-\t-\t-\t0\t-\n",
-    "F\ta\t-\t0\t99999999999999999999\t-\t-\t-\t0\t-\n",
-    "F\ta\t-\t0\t0\t\t-\t-\t0\t-\n",
-    "F\ta\t-\t0\t0\tA0\t-\t-\t0\t-\n",
-    "F\ta\t-\t0\t0\ta\t-\t-\t0\t-\n",
-    "F\ta\t-\t0\t0\t-\t-\t-\t0\t\n",
-    "F\ta\t-\t0\t0\t-\t-\t-\t0\t*00\n",
-    "F\ta\t-\t0\t0\t-\t-\t-\t1\t-\n",
-    "F\ta\t-\t0\t0\t-\t-\t-\t1\t*00\n",
-    "F\ta\t-\t0\t0\t-\t-\t-\t2\t*0001\n",
-    "F\ta\t-\t0\t0\t-\t-\t-\t2\t*FF\n",
-    "F\ta\t-\t0\t0\t-\t-\t-\t2\tffff\n",
-    "F\ta\t-\t0\t0\t-\t-\t-\t2\tff\n",
-    "F\ta\t-\t0\t0\t-\t-\t-\t268435457\t*00\n",
-    "F\tb\t-\t0\t0\t-\t-\t-\t0\t-\nF\ta\t-\t0\t0\t-\t-\t-\t0\t-\n",
-    "F\ta\t-\t0\t0\t-\t-\t-\t0\t-\nF\tA\t-\t0\t0\t-\t-\t-\t0\t-\n",
-];
-
-// Texts that no site has.
-const BAD_TEXTS: [&str; 13] = [
-    "",
-    "\n",
-    "SITE\t1\n",
-    "SITE\t2\nMOMENT\t0\nSOURCE\nTARGET\nRECORD\t-\nEND\n",
-    "SITE 1\nMOMENT\t0\nSOURCE\nTARGET\nRECORD\t-\nEND\n",
-    "SITE\t1\nMOMENT\t00\nSOURCE\nTARGET\nRECORD\t-\nEND\n",
-    "SITE\t1\nMOMENT\t2650467744000000000\nSOURCE\nTARGET\nRECORD\t-\nEND\n",
-    "SITE\t1\nMOMENT\t0\nTARGET\nSOURCE\nRECORD\t-\nEND\n",
-    "SITE\t1\nMOMENT\t0\nSOURCE\nTARGET\nRECORD\t00\nEND\n",
-    "SITE\t1\nMOMENT\t0\nSOURCE\nTARGET\nRECORD\t-\n",
-    "SITE\t1\nMOMENT\t0\nSOURCE\nTARGET\nRECORD\t-\nEND",
-    "SITE\t1\nMOMENT\t0\nSOURCE\nTARGET\nRECORD\t-\nEND\n\n",
-    "SITE\t1\r\nMOMENT\t0\r\nSOURCE\r\nTARGET\r\nRECORD\t-\r\nEND\r\n",
-];
-
-fn is_refused(rt: &HostRuntime, text: &[u8]) -> bool {
-    matches!(read_site(rt.alloc(), text), Err(SiteTextErr::Refused))
-}
-
-#[test]
-fn refuses_what_is_no_site(rt: HostRuntime) -> Result<(), Fail> {
-    for lines in BAD_LINES {
-        let text = with_source(&rt, lines)?;
-        assert!(rt; is_refused(&rt, text.as_bytes()), "{lines}");
-    }
-    for text in BAD_TEXTS {
-        assert!(rt; is_refused(&rt, text.as_bytes()), "{text}");
-    }
-    assert!(rt;
-        is_refused(
-            &rt,
-            b"SITE\t1\nMOMENT\t0\nSOURCE\nF\t\xff\t-\t0\t0\t-\t-\t-\t0\t-\nTARGET\nRECORD\t-\nEND\n"
-        )
-    );
     Ok(())
 }

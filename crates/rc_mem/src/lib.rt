@@ -1,5 +1,6 @@
 //! The outside in memory: a site of two trees and a record, and the reader, sink, input, job store and clock beside
-//! it. All of them tell everything that they hold, and nothing of them fails but for want of memory.
+//! it. All of them tell everything that they hold, and nothing of them fails but for want of memory: their counts of
+//! faults are 0 by definition.
 //!
 //! A tree is kept as a list of nodes in the order of their keys, in which a key is found by binary search; contracts
 //! see it as the finite map that the list makes.

@@ -8,20 +8,9 @@ use rc_tree::Path;
 use rc_volume::{ReadErr, Reader, Want};
 use std::alloc::Global;
 
-/// How many reads of a [`MemReader`] failed under one user.
+/// What a user of a [`MemReader`] has in the place of a count of failed reads: no read of it fails.
 #[derive(Debug, Drop)]
-pub struct MemTally {
-    failed: u64,
-}
-
-impl MemTally {
-    /// The count.
-    pub fn failed(&self) -> u64
-        ensures { result ≡ self.now.failed }
-    {
-        self.failed
-    }
-}
+pub struct MemTally;
 
 /// A reader of a tree as it stood when the reader was made.
 #[derive(Debug, Drop)]
@@ -51,10 +40,10 @@ impl Reader for MemReader {
 
     ghost bytes = { λ r key. bytes_in (get r.tree key) };
 
-    ghost count = { λ tally. tally.failed };
+    ghost count = { λ _. 0 };
 
     fn tally(&self) -> MemTally {
-        MemTally { failed: 0 }
+        MemTally
     }
 
     fn fill(

@@ -1,29 +1,25 @@
 ghost use Rattle.std.specs.Prelude.{◌≡◌, ℕ, Bool, true, List, [], IfOk, MatchResult};
 ghost use Rattle.rc_tree.specs.Tree.{IsTree};
-ghost use Rattle.rc_volume.specs.declared.site.Part.{Part};
 ghost use Rattle.rc_volume.specs.declared.want.Want.{Want};
 ghost use Rattle.rc_volume.specs.Site.{Told, tree_of};
-ghost use Rattle.rc_mem.specs.MemSite.{told_by, faults_of};
+ghost use Rattle.rc_mem.specs.MemSite.{told_by};
 
 use crate::{MemReader, MemTally, Tree};
 use rc_tree::{Entry, Name, NoMemory, Path, Props, Scan};
 use rc_volume::{BindErr, Part, Side, Site, SiteErr, Want};
 use std::alloc::Global;
 
-/// A site in memory. It ignores the texts of its roots.
+/// A site in memory. It ignores the texts of its roots, and no part of it ever fails.
 #[derive(Debug, Drop)]
 pub struct MemSite {
     source: Tree,
     target: Tree,
     notes: Vec<u8>,
-    source_faults: u64,
-    target_faults: u64,
-    record_faults: u64,
     opened: Vec<Want>,
 }
 
 impl MemSite {
-    /// A site with these trees and these bytes as its record, on which nothing has failed.
+    /// A site with these trees and these bytes as its record.
     pub fn new(
         alloc: Global,
         source: Tree,
@@ -31,16 +27,12 @@ impl MemSite {
         notes: Vec<u8>,
     ) -> Result<MemSite, NoMemory>
         ensures told { IfOk result (λ site. told_by site ≡ record { source = source; target = target; notes = notes.items }) }
-        ensures faults { IfOk result (λ site. (part : Part) → faults_of site part ≡ 0) }
         ensures opened { IfOk result (λ site. site.opened.items ≡ []) }
     {
         Ok(MemSite {
             source,
             target,
             notes,
-            source_faults: 0,
-            target_faults: 0,
-            record_faults: 0,
             opened: Vec::new(alloc),
         })
     }
@@ -79,7 +71,7 @@ impl Site for MemSite {
 
     ghost told = { told_by };
 
-    ghost faults = { faults_of };
+    ghost faults = { λ _ _. 0 };
 
     ghost opened = { λ site. site.opened.items };
 
@@ -102,6 +94,10 @@ impl Site for MemSite {
         after: Option<&Name>,
     ) -> Result<Option<Entry>, SiteErr> {
         answer(self.tree(side).next_entry(alloc, dir, after))
+    }
+
+    fn stat(&mut self, alloc: Global, side: Side, path: &Path) -> Result<Option<Entry>, SiteErr> {
+        answer(self.tree(side).entry_at(alloc, path))
     }
 
     fn make_file(&mut self, alloc: Global, side: Side, path: &Path) -> Result<(), SiteErr> {
@@ -169,9 +165,7 @@ impl Site for MemSite {
         }
     }
 
-    fn absorb(&mut self, tally: MemTally) {
-        self.source_faults = self.source_faults.saturating_add(tally.failed());
-    }
+    fn absorb(&mut self, _tally: MemTally) {}
 }
 
 // The answer of a site to a call that only want of memory can fail.

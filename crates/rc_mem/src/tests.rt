@@ -6,7 +6,7 @@ ghost use Rattle.rc_tree.specs.Tree.{IsDirectory};
 ghost use Rattle.rc_volume.specs.Site.{tree_of};
 
 use crate::{FixedClock, MemInput, MemJobs, MemSink, MemSite, Tree, TreeNode};
-use rc_tree::{Attr, Kind, Moment, Name, Path, Props, Security, Text};
+use rc_tree::{Attr, Entry, Kind, Moment, Name, Path, Props, Security, Text};
 use rc_volume::{Clock, Input, JobStore, Ranges, Reader, Side, Sink, Site, Want};
 use std::alloc::Global;
 use std::test::Fail;
@@ -145,6 +145,43 @@ fn lists_by_folded_names(rt: HostRuntime) -> Result<(), Fail> {
 }
 
 // Makes a file, where it may stand there.
+#[test]
+fn looks_at_one_entry(rt: HostRuntime) -> Result<(), Fail> {
+    let alloc = rt.alloc();
+    let mut site = sample(alloc)?;
+    // Any spelling of the key finds the entry as it is spelled.
+    for (path, name, kind, size) in [
+        ("A", "a", Kind::File, 5),
+        ("b", "B", Kind::Dir, 0),
+        ("b\\X", "x", Kind::File, 0),
+    ] {
+        let path = Path::read(alloc, path)?;
+        let Some(entry) = look(alloc, &mut site, Side::Source, &path)? else {
+            return Err("nothing stands there")?;
+        };
+        assert_eq!(rt; entry.name.text(), name);
+        assert_eq!(rt; (entry.kind, entry.size), (kind, size));
+    }
+    let nowhere = Path::read(alloc, "b\\z")?;
+    assert!(rt; look(alloc, &mut site, Side::Source, &nowhere)?.is_none());
+    let file = Path::read(alloc, "a")?;
+    assert!(rt; look(alloc, &mut site, Side::Target, &file)?.is_none());
+    Ok(())
+}
+
+// What a site has at a path that is not the root.
+fn look<S: Site>(
+    alloc: Global,
+    site: &mut S,
+    side: Side,
+    path: &Path,
+) -> Result<Option<Entry>, Fail> {
+    if path.names().is_empty() {
+        return Ok(None);
+    }
+    Ok(site.stat(alloc, side, path)?)
+}
+
 fn make(alloc: Global, site: &mut MemSite, path: &Path) -> Result<(), Fail> {
     let tree = site.tree(Side::Source);
     if !has_parent(alloc, tree, path)? || tree.get(path).is_some() {

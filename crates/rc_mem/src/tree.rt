@@ -4,7 +4,7 @@ ghost use Rattle.std.specs.declared.cmp.Ordering.TheVariants.{Less};
 ghost use Rattle.rc_tree.specs.declared.attr.Kind.TheVariants.{Dir};
 ghost use Rattle.rc_tree.specs.Path.{key_of, key_cmp, last_name, parent_of};
 ghost use Rattle.rc_tree.specs.Tree.{IsDirectory, IsTree};
-ghost use Rattle.rc_volume.specs.Site.{bytes_in, fresh_file, written_at, resized, Lists, HasFile, IsVacant};
+ghost use Rattle.rc_volume.specs.Site.{bytes_in, entry_of, fresh_file, written_at, resized, Lists, HasFile, IsVacant};
 ghost use Rattle.rc_mem.specs.Nodes.{node_of, placed};
 ghost use Rattle.rc_mem.specs.Places.{Changes};
 
@@ -82,7 +82,9 @@ impl Tree {
 
     /// The node at the key of a path.
     pub fn get(&self, path: &Path) -> Option<&TreeNode>
-        ensures { option_map (λ node. node_of node.now) result ≡ get self.now (key_of path.now) }
+        ensures found { option_map (λ node. node_of node.now) result ≡ get self.now (key_of path.now) }
+        ensures placed { IfSome result (λ node. key_of node.now.path ≡ key_of path.now) }
+        ensures directory { IfSome result (λ node. node.now.kind ≡ Dir → node.now.bytes.items ≡ []) }
     {
         match place_of(self.nodes.as_slice(), path) {
             Ok(at) => Some(&self.nodes[at]),
@@ -121,6 +123,18 @@ impl Tree {
         ensures directory { IfOk result (λ found. IfSome found (λ entry. entry.kind ≡ Dir → entry.size ≡ 0)) }
     {
         match next_node(alloc, self.nodes.as_slice(), dir, after)? {
+            Some(node) => Ok(Some(shown(alloc, node)?)),
+            None => Ok(None),
+        }
+    }
+
+    /// The entry at the key of a path that is not the root.
+    pub(crate) fn entry_at(&self, alloc: Global, path: &Path) -> Result<Option<Entry>, NoMemory>
+        requires { 0 < length path.now }
+        ensures found { IfOk result (λ found. found ≡ option_map entry_of (get self.now (key_of path.now))) }
+        ensures directory { IfOk result (λ found. IfSome found (λ entry. entry.kind ≡ Dir → entry.size ≡ 0)) }
+    {
+        match self.get(path) {
             Some(node) => Ok(Some(shown(alloc, node)?)),
             None => Ok(None),
         }

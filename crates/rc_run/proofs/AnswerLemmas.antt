@@ -1,14 +1,14 @@
 -- Which step answered, and what that says of the words and of the start.
-use Rattle.std.proofs.Common.{◌≡◌, ◌⊎◌, ℕ, true, List, [], Option, Some, None, inl, inr, refl, sym, ap, subst, ◌∙◌, arith}
+use Rattle.std.proofs.Common.{◌≡◌, ℕ, true, List, [], Option, Some, None, inl, inr, refl, sym, ap, subst, ◌∙◌}
 use Rattle.std.specs.Prelude.{if◌then◌else◌}
 use Rattle.rc_volume.specs.declared.site.Part.{Part}
 use Rattle.rc_volume.specs.declared.site.Part.TheVariants as part
 use Rattle.rc_volume.specs.Site.{Told, part_for}
 use Rattle.rc_run.specs.declared.outcome.Outcome.{Outcome}
 use Rattle.rc_run.specs.declared.outcome.Outcome.TheVariants.{Done, Usage, NotYet, RootFault, ListFault, RecordFault, SiteFault, SinkFault, NoMemory}
-use Rattle.rc_run.specs.Answers.{Accepts, Answers, IsExpected, IsRecordAnswer, IsTreesAnswer, Stops, or_else, site_refusal, start_refusal}
-use Rattle.rc_run.specs.Outcome.{IsBeforeReport, IsCaused, IsDone, IsEarly, IsLateFault, IsListFault, IsRefusal, IsRootFault, IsSinkFault, IsSiteFault}
-use Rattle.rc_run.specs.Steps.{are_within, is_empty}
+use Rattle.rc_run.specs.Answers.{Accepts, Answers, IsExpected, IsRecordAnswer, IsTreesAnswer, Stops, is_empty, or_else, site_refusal, start_refusal}
+use Rattle.rc_run.specs.Outcome.{IsBeforeReport, IsCaused, IsEarly, IsLateFault, IsListFault, IsRefusal, IsRootFault, IsSinkFault, IsSiteFault}
+use Rattle.rc_plan.specs.Roots.{are_built}
 use Rattle.rc_run.specs.Words.{refusal_of}
 use Rattle.rc_run.proofs.CauseLemmas.{IsCaused-weaker}
 
@@ -47,7 +47,7 @@ pub stops_at_record : (tells : Type 0) (words : List (List ℕ)) (told : Told) �
 stops_at_record tells words told none (NotYet what) h = (
   inr (
     none,
-    λ t. ap (λ b. if b then (if are_within told.source told.target then None else Some (NotYet 2)) else Some (NotYet 3)) (h.1 t) ∙ ap (λ n. Some (NotYet n)) (sym h.0),
+    λ t. ap (λ b. if b then (if are_built told.source told.target then None else Some (NotYet 2)) else Some (NotYet 3)) (h.1 t) ∙ ap (λ n. Some (NotYet n)) (sym h.0),
   ),
   λ d. d,
 )
@@ -61,9 +61,9 @@ stops_at_record tells words told none SinkFault h = absurd h
 stops_at_record tells words told none NoMemory h = absurd h
 
 -- without a record the site is refused by its trees alone
-site_refusal-trees : (told : Told) → told.notes ≡ [] → site_refusal told ≡ (if are_within told.source told.target then None else Some (NotYet 2))
+site_refusal-trees : (told : Told) → told.notes ≡ [] → site_refusal told ≡ (if are_built told.source told.target then None else Some (NotYet 2))
 site_refusal-trees told notes =
-    ap (λ b. if b then (if are_within told.source told.target then None else Some (NotYet 2)) else Some (NotYet 3)) (ap is_empty notes)
+    ap (λ b. if b then (if are_built told.source told.target then None else Some (NotYet 2)) else Some (NotYet 3)) (ap is_empty notes)
 
 -- the trees are not those that are mirrored so far, or can't be listed
 pub stops_at_trees : (tells : Type 0) (words : List (List ℕ)) (told : Told) → refusal_of words ≡ None → (tells → told.notes ≡ []) → (e : Outcome) → IsTreesAnswer tells told e → Stops tells words told e
@@ -86,7 +86,7 @@ stops_at_trees tells words told none notes NoMemory h = absurd h
 -- the same where the site is as it was before
 pub stops_at_moved : (tells : Type 0) (words : List (List ℕ)) (now told : Told) → (tells → now ≡ told) → refusal_of words ≡ None → (tells → told.notes ≡ []) → (e : Outcome) → IsTreesAnswer tells now e → Stops tells words told e
 stops_at_moved tells words now told same none notes (NotYet what) h =
-    stops_at_trees tells words told none notes (NotYet what) (h.0, λ t. ap (λ (x : Told). are_within x.source x.target) (sym (same t)) ∙ h.1 t)
+    stops_at_trees tells words told none notes (NotYet what) (h.0, λ t. ap (λ (x : Told). are_built x.source x.target) (sym (same t)) ∙ h.1 t)
 stops_at_moved tells words now told same none notes (ListFault side) h = ((none, notes), λ d. d)
 stops_at_moved tells words now told same none notes (Done bits moment) h = absurd h
 stops_at_moved tells words now told same none notes (Usage file place kind) h = absurd h
@@ -130,7 +130,7 @@ late_sink (SiteFault side) h = absurd h
 late_sink NoMemory h = absurd h
 
 -- words, record and trees are those of a run
-pub accepted : (tells : Type 0) (words : List (List ℕ)) (told : Told) → refusal_of words ≡ None → (tells → told.notes ≡ []) → (tells → are_within told.source told.target ≡ true) → Accepts tells words told
+pub accepted : (tells : Type 0) (words : List (List ℕ)) (told : Told) → refusal_of words ≡ None → (tells → told.notes ≡ []) → (tells → are_built told.source told.target ≡ true) → Accepts tells words told
 accepted tells words told none notes within = (
   none,
   λ t. site_refusal-trees told (notes t) ∙ ap (λ b. if b then None else Some (NotYet 2)) (within t),

@@ -1,5 +1,5 @@
 -- Causes of faults, carried on over later calls.
-use Rattle.std.proofs.Common.{◌≡◌, ◌⊎◌, ℕ, List, ◌+◌, ◌<◌, ◌≤◌, min, inl, inr, refl, sym, subst, arith, Result, Ok, Err}
+use Rattle.std.proofs.Common.{◌≡◌, ℕ, List, ◌+◌, ◌≤◌, min, inl, inr, sym, subst, arith, Result, Ok, Err}
 use Rattle.std.specs.Prelude.{IfErr, OnOk}
 use Rattle.std.proofs.lemmas.Bool.{cases_lt}
 use Rattle.rc_volume.specs.declared.site.Part.{Part}

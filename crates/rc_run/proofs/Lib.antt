@@ -1,10 +1,8 @@
-pub mod AnswerLemmas
-pub mod CauseLemmas
-pub mod CopyLemmas
-pub mod EachLemmas
-pub mod GoalLemmas
-pub mod ListLemmas
-pub mod OutcomeLemmas
-pub mod ReportLemmas
-pub mod TextLemmas
-pub mod WordLemmas
+mod AnswerLemmas
+mod CauseLemmas
+mod CopyLemmas
+mod GoalLemmas
+mod ItemLemmas
+mod NodeLemmas
+mod OutcomeLemmas
+mod WordLemmas

@@ -1,16 +1,20 @@
 -- What each answer of a run says of its words and of the site at its start, in the order in which a run looks at them.
-use Rattle.std.specs.Prelude.{◌≡◌, ◌⊎◌, ℕ, false, List, [], ◌∷◌, Option, Some, None, if◌then◌else◌}
+use Rattle.std.specs.Prelude.{◌≡◌, ◌⊎◌, ℕ, Bool, true, false, List, [], ◌∷◌, Option, Some, None, if◌then◌else◌}
 use Rattle.rc_volume.specs.Site.{Told}
 use Rattle.rc_run.specs.declared.outcome.Outcome.{Outcome}
 use Rattle.rc_run.specs.declared.outcome.Outcome.TheVariants.{Done, Usage, NotYet, RootFault, ListFault, RecordFault, SiteFault, SinkFault, NoMemory}
 use Rattle.rc_run.specs.Outcome.{IsDone}
-use Rattle.rc_run.specs.Steps.{are_within, is_empty}
+use Rattle.rc_plan.specs.Roots.{are_built}
 use Rattle.rc_run.specs.Words.{refusal_of}
+
+abbrev pub is_empty : {A : Type 0} → List A → Bool
+is_empty [] = true
+is_empty (x ∷ xs) = false
 
 -- why a site is refused; nothing where it has no record and its trees are those that are mirrored so far
 abbrev pub site_refusal : Told → Option Outcome
 site_refusal told =
-    if is_empty told.notes then (if are_within told.source told.target then None else Some (NotYet 2)) else Some (NotYet 3)
+    if is_empty told.notes then (if are_built told.source told.target then None else Some (NotYet 2)) else Some (NotYet 3)
 
 -- words come before the site
 abbrev pub or_else : Option Outcome → Option Outcome → Option Outcome
@@ -59,7 +63,7 @@ IsRecordAnswer tells told NoMemory = ⊥
 
 -- what is answered where the roots are listed
 abbrev pub IsTreesAnswer : Type 0 → Told → Outcome → Type 0
-IsTreesAnswer tells told (NotYet what) = (what ≡ 2) × (tells → are_within told.source told.target ≡ false)
+IsTreesAnswer tells told (NotYet what) = (what ≡ 2) × (tells → are_built told.source told.target ≡ false)
 IsTreesAnswer tells told (ListFault side) = Unit {0}
 IsTreesAnswer tells told (Done bits moment) = ⊥
 IsTreesAnswer tells told (Usage file place kind) = ⊥

@@ -1,6 +1,5 @@
 pub mod Answers
+pub mod Copying
 pub mod Goal
 pub mod Outcome
-pub mod Report
-pub mod Steps
 pub mod Words

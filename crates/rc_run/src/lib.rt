@@ -1,13 +1,11 @@
 //! The run of a mirror, from words and a site to the mirrored trees, the report and the exit bits.
 //!
-//! [`mirror_alone`] promises that at `Done` both trees are, key by key, the goals that the definitions of this crate
-//! give from the two trees on which it started, and that the report and the bits are those of the same decisions.
+//! [`mirror_alone`] promises that at `Done` both trees are, key by key, the goals that the definitions give from the
+//! words and the two trees on which it started, and that the report and the bits are those of the same decisions.
 #![tactic(auto)]
 
 mod copying;
-mod listing;
 mod outcome;
-mod report;
 mod run;
 #[cfg(test)]
 mod tests;

@@ -8,7 +8,7 @@ ghost use Rattle.rc_tree.specs.Tree.{IsDirectory};
 ghost use Rattle.rc_volume.specs.declared.want.Want.{Want};
 ghost use Rattle.rc_volume.specs.declared.site.Part.{Part};
 ghost use Rattle.rc_volume.specs.Faults.{Rose, HasCause, last_count};
-ghost use Rattle.rc_volume.specs.Site.{Told, tree_of, part_for, ChangesOnly, Goes, fresh_file, written_at, resized, IsTorn, IsHalfResized, IsVacant, HasFile, IsWithin, ComesAfter, Lists, ReadsFrom};
+ghost use Rattle.rc_volume.specs.Site.{Told, tree_of, part_for, ChangesOnly, Goes, fresh_file, written_at, resized, IsTorn, IsHalfResized, IsVacant, HasFile, entry_of, IsWithin, ComesAfter, Lists, ReadsFrom};
 
 use crate::{Reader, Want};
 use rc_tree::{Entry, Name, Path, Props, Scan};
@@ -99,6 +99,16 @@ pub trait Site {
         // On every site, told or not.
         ensures rising { IfOk result (λ found. IfSome found (λ entry. ComesAfter (option_map (λ name. name.now) after.entry) (folded entry.name))) }
         ensures depth { IfOk result (λ found. IsSome found → length dir.now < 64) }
+        ensures directory { IfOk result (λ found. IfSome found (λ entry. entry.kind ≡ Dir → entry.size ≡ 0)) }
+        ensures same { tells ≡ true → told self.new ≡ told self.old }
+        ensures opened { opened self.new ≡ opened self.old }
+        ensures counts { (part : Part) → faults self.old part ≤ faults self.new part }
+        ensures cause { HasCause (faults self.old (part_for side)) (faults self.new (part_for side)) SiteErr.Failed result };
+
+    /// The entry at the key of a path that is not the root; none where nothing stands there.
+    fn stat(&mut self, alloc: Global, side: Side, path: &Path) -> Result<Option<Entry>, SiteErr>
+        requires { 0 < length path.now }
+        ensures found { tells ≡ true → IfOk result (λ found. found ≡ option_map entry_of (get (tree_of (told self.old) side) (key_of path.now))) }
         ensures directory { IfOk result (λ found. IfSome found (λ entry. entry.kind ≡ Dir → entry.size ≡ 0)) }
         ensures same { tells ≡ true → told self.new ≡ told self.old }
         ensures opened { opened self.new ≡ opened self.old }

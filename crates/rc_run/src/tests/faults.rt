@@ -1,13 +1,13 @@
-ghost use Rattle.std.specs.Prelude.{◌≡◌, Bool, false, List, ℕ, [], IfOk, IfSome, OnErr};
+ghost use Rattle.std.specs.Prelude.{◌≡◌, Bool, false, List, ℕ, [], IfOk, IfErr, IfSome, OnErr};
 ghost use Rattle.std.specs.FinMap.{empty};
 ghost use Rattle.rc_volume.specs.declared.want.Want.{Want};
 ghost use Rattle.rc_volume.specs.Faults.{HasCause, Rose};
 ghost use Rattle.rc_volume.specs.Site.{Told};
 
-use super::{ROOTS, T0, flat, plain, run, shown, site};
+use super::{A, NO_SWITCHES, T0, flat, mirror, shown, site};
 use crate::{Outcome, outcome_text, status};
 use rc_mem::{MemSink, Tree};
-use rc_tree::{Attr, Entry, Kind, Name, NoMemory, Path, Props, Scan};
+use rc_tree::{Attr, Entry, Kind, Moment, Name, NoMemory, Path, Props, Scan, Security};
 use rc_volume::{BindErr, ReadErr, Reader, Side, Sink, SinkErr, Site, SiteErr, Want};
 use std::alloc::Global;
 use std::test::Fail;
@@ -18,6 +18,7 @@ enum Call {
     Bind(Side),
     RecordLen,
     NextEntry(Side),
+    Stat(Side),
     MakeFile,
     Put,
     SetLen,
@@ -27,10 +28,11 @@ enum Call {
     Fill,
 }
 
-// A site with one file of five bytes in its source, on which one call fails: that of its kind behind `before` others.
-// It tells nothing.
+// A site with one file of five bytes in its source, and with a changed one of three in its target where one stands
+// there, on which one call fails: that of its kind behind `before` others. It tells nothing.
 #[derive(Drop)]
 struct FailingSite {
+    standing: bool,
     call: Call,
     before: u64,
     failures: u64,
@@ -53,6 +55,24 @@ impl FailingSite {
         }
         self.failures = self.failures.saturating_add(1);
         Err(SiteErr::Failed)
+    }
+
+    // The file of a side.
+    fn file(&self, alloc: Global, side: Side) -> Result<Option<Entry>, SiteErr>
+        ensures file { IfOk result (λ found. IfSome found (λ entry. entry.kind ≡ Kind.File)) }
+        ensures memory { IfErr result (λ e. e ≡ SiteErr.NoMemory) }
+    {
+        let size = match side {
+            Side::Source => 5,
+            Side::Target => 3,
+        };
+        if side == Side::Target && !self.standing {
+            return Ok(None);
+        }
+        match file_entry(alloc, size) {
+            Some(entry) => Ok(Some(entry)),
+            None => Err(SiteErr::NoMemory),
+        }
     }
 }
 
@@ -94,13 +114,15 @@ impl Site for FailingSite {
         after: Option<&Name>,
     ) -> Result<Option<Entry>, SiteErr> {
         self.answer(Call::NextEntry(side))?;
-        if side == Side::Target || after.is_some() || !dir.names().is_empty() {
+        if after.is_some() || !dir.names().is_empty() {
             return Ok(None);
         }
-        match one_entry(alloc) {
-            Some(entry) => Ok(Some(entry)),
-            None => Err(SiteErr::NoMemory),
-        }
+        self.file(alloc, side)
+    }
+
+    fn stat(&mut self, alloc: Global, side: Side, _path: &Path) -> Result<Option<Entry>, SiteErr> {
+        self.answer(Call::Stat(side))?;
+        self.file(alloc, side)
     }
 
     fn make_file(&mut self, _alloc: Global, _side: Side, _path: &Path) -> Result<(), SiteErr> {
@@ -168,16 +190,23 @@ impl Site for FailingSite {
     }
 }
 
-// The file a.txt of five bytes.
-fn one_entry(alloc: Global) -> Option<Entry>
+// The file a.txt, of so many bytes.
+fn file_entry(alloc: Global, size: u64) -> Option<Entry>
     ensures { IfSome result (λ entry. entry.kind ≡ Kind.File) }
 {
     let name = Name::read(alloc, "a.txt").ok()?;
     Some(Entry {
         name,
         kind: Kind::File,
-        size: 5,
-        props: plain(alloc, Attr::NONE),
+        size,
+        props: Props {
+            attr: Attr::NONE,
+            created: Moment::new(T0),
+            written: Moment::new(T0),
+            access: Security::empty(alloc),
+            owner: Security::empty(alloc),
+            audit: Security::empty(alloc),
+        },
     })
 }
 
@@ -236,63 +265,108 @@ impl Reader for FailingReader {
 }
 
 // How a run ends on a site where such a call fails.
-fn outcome_where(alloc: Global, call: Call, before: u64) -> Result<Outcome, Fail> {
+fn outcome_where(alloc: Global, standing: bool, call: Call, before: u64) -> Result<Outcome, Fail> {
     let site = FailingSite {
+        standing,
         call,
         before,
         failures: 0,
         opened: Vec::new(alloc),
     };
     let mut sink = MemSink::new(alloc);
-    let ended = run(alloc, ROOTS, site, &mut sink)?;
+    let ended = mirror(alloc, NO_SWITCHES, site, &mut sink)?;
     Ok(ended.outcome)
 }
 
 #[test]
 fn names_the_fault_of_a_site(rt: HostRuntime) -> Result<(), Fail> {
     let alloc = rt.alloc();
-    for (call, before, text) in [
-        (Call::Bind(Side::Source), 0, "ERROR: root fault: source"),
-        (Call::Bind(Side::Target), 0, "ERROR: root fault: target"),
-        (Call::RecordLen, 0, "ERROR: record fault"),
+    for (standing, call, before, text) in [
         (
+            false,
+            Call::Bind(Side::Source),
+            0,
+            "ERROR: root fault: source",
+        ),
+        (
+            false,
+            Call::Bind(Side::Target),
+            0,
+            "ERROR: root fault: target",
+        ),
+        (false, Call::RecordLen, 0, "ERROR: record fault"),
+        (
+            false,
             Call::NextEntry(Side::Source),
             0,
             "ERROR: listing fault: source",
         ),
         (
+            false,
             Call::NextEntry(Side::Source),
             1,
             "ERROR: listing fault: source",
         ),
         (
+            false,
             Call::NextEntry(Side::Target),
             0,
             "ERROR: listing fault: target",
         ),
-        (Call::Reader, 0, "ERROR: volume fault: source"),
-        (Call::Fill, 0, "ERROR: volume fault: source"),
-        (Call::MakeFile, 0, "ERROR: volume fault: target"),
-        (Call::SetLen, 0, "ERROR: volume fault: target"),
-        (Call::Put, 0, "ERROR: volume fault: target"),
-        (Call::SetProps, 0, "ERROR: volume fault: target"),
-        (Call::Sync, 0, "ERROR: volume fault: target"),
+        (
+            true,
+            Call::NextEntry(Side::Target),
+            1,
+            "ERROR: listing fault: target",
+        ),
+        (false, Call::Reader, 0, "ERROR: volume fault: source"),
+        (false, Call::MakeFile, 0, "ERROR: volume fault: target"),
+        (
+            true,
+            Call::Stat(Side::Target),
+            0,
+            "ERROR: volume fault: target",
+        ),
+        (false, Call::SetLen, 0, "ERROR: volume fault: target"),
+        (true, Call::SetLen, 0, "ERROR: volume fault: target"),
+        (false, Call::Fill, 0, "ERROR: volume fault: source"),
+        (false, Call::Put, 0, "ERROR: volume fault: target"),
+        (
+            false,
+            Call::Stat(Side::Source),
+            0,
+            "ERROR: volume fault: source",
+        ),
+        (
+            true,
+            Call::Stat(Side::Source),
+            0,
+            "ERROR: volume fault: source",
+        ),
+        (false, Call::SetProps, 0, "ERROR: volume fault: target"),
+        (false, Call::Sync, 0, "ERROR: volume fault: target"),
     ] {
-        let outcome = outcome_where(alloc, call, before)?;
+        let outcome = outcome_where(alloc, standing, call, before)?;
         assert_eq!(rt; outcome_text(alloc, &outcome)?.text(), text, "at {call:?}");
         assert_eq!(rt; status(&outcome), 16, "at {call:?}");
     }
     // The call that would fail doesn't come.
-    let outcome = outcome_where(alloc, Call::Sync, 1)?;
-    assert!(rt;
-        matches!(
-            &outcome,
-            Outcome::Done {
-                bits: 1,
-                moment: T0
-            }
-        )
-    );
+    for (standing, call, before) in [
+        (false, Call::Sync, 1),
+        (false, Call::Stat(Side::Target), 0),
+        (true, Call::MakeFile, 0),
+    ] {
+        let outcome = outcome_where(alloc, standing, call, before)?;
+        assert!(rt;
+            matches!(
+                &outcome,
+                Outcome::Done {
+                    bits: 1,
+                    moment: T0
+                }
+            )
+        );
+    }
     Ok(())
 }
 
@@ -326,7 +400,7 @@ fn names_the_fault_of_a_sink(rt: HostRuntime) -> Result<(), Fail> {
     for before in 0..2 {
         let start = site(
             alloc,
-            flat(alloc, &[("a.txt", b"hello")])?,
+            flat(alloc, &[("a.txt", b"hello", T0, A)])?,
             Tree::new(alloc),
         )?;
         let source = shown(alloc, start.tree(Side::Source))?;
@@ -334,7 +408,7 @@ fn names_the_fault_of_a_sink(rt: HostRuntime) -> Result<(), Fail> {
             before,
             failures: 0,
         };
-        let ended = run(alloc, ROOTS, start, &mut sink)?;
+        let ended = mirror(alloc, NO_SWITCHES, start, &mut sink)?;
         assert_eq!(rt;
             outcome_text(alloc, &ended.outcome)?.text(),
             "ERROR: report fault"

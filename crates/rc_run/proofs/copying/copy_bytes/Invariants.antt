@@ -1,4 +1,4 @@
-use Rattle.std.proofs.Common.{◌≡◌, ℕ, ◌≤◌, ◌-◌, true, length}
+use Rattle.std.proofs.Common.{◌≡◌, ◌≤◌, ◌-◌, true, length}
 use Rattle.rc_tree.specs.Path.{key_of}
 use Rattle.rc_volume.specs.declared.site.Part.{Part}
 use Rattle.rc_run.proofs.CopyLemmas.{IsFilled}

@@ -1,9 +1,8 @@
 -- A sync changes nothing that is told.
-use Rattle.std.proofs.Common.{◌≡◌, List, ℕ, ap, sym, subst, ◌∙◌, arith}
+use Rattle.std.proofs.Common.{ap, ◌∙◌, arith}
 use Rattle.std.specs.FinMap.{get}
 use Rattle.std.proofs.lemmas.Result.{IfErr-weaker}
 use Rattle.rc_volume.specs.Site.{Told}
-use Rattle.rc_run.specs.Steps.{copied_over}
 use Rattle.rc_run.specs.Outcome.{IsSiteFault, RisesIn}
 use Rattle.rc_run.proofs.CauseLemmas.{IsCaused-weaker, RisesIn-before, OnOk-from_fact}
 use Rattle.rc_run.proofs.copying.copy_durably.Goals as goal
@@ -11,8 +10,11 @@ use Rattle.rc_run.proofs.copying.copy_durably.Goals as goal
 pub copy_through-requires-clause-room : goal.copy_through-requires-clause-room
 copy_through-requires-clause-room g c κs within = c.requires.room
 
-pub copy_through-requires-clause-apart : goal.copy_through-requires-clause-apart
-copy_through-requires-clause-apart g c κs within = c.requires.apart
+pub copy_through-requires-clause-rising : goal.copy_through-requires-clause-rising
+copy_through-requires-clause-rising g c κs within = c.requires.rising
+
+pub copy_through-requires-clause-roots : goal.copy_through-requires-clause-roots
+copy_through-requires-clause-roots g c κs within = c.requires.roots
 
 pub copy_through-requires-clause-sizes : goal.copy_through-requires-clause-sizes
 copy_through-requires-clause-sizes g c κs within = c.requires.sizes
@@ -23,8 +25,8 @@ copy_through-requires-clause-wants g c κs within = c.requires.wants
 pub copy_through-requires-clause-told : goal.copy_through-requires-clause-told
 copy_through-requires-clause-told g c κs within = c.requires.told
 
-pub copy_through-requires-clause-absent : goal.copy_through-requires-clause-absent
-copy_through-requires-clause-absent g c κs within = c.requires.absent
+pub copy_through-requires-clause-doable : goal.copy_through-requires-clause-doable
+copy_through-requires-clause-doable g c κs within = c.requires.doable
 
 pub returns-in-Ok-clause-copied : goal.returns-in-Ok-clause-copied
 returns-in-Ok-clause-copied g c = λ tells.

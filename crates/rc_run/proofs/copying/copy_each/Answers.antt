@@ -1,29 +1,32 @@
-use Rattle.std.proofs.Common.{sym, subst, ◌∙◌, List, arith}
+use Rattle.std.proofs.Common.{◌≡◌, Some, sym, subst, ◌∙◌, List, arith}
+use Rattle.std.specs.FinMap.{get}
+use Rattle.rc_tree.specs.Path.{key_of}
+use Rattle.rc_tree.specs.Tree.{Tree}
 use Rattle.rc_volume.specs.declared.want.Want.{Want}
 use Rattle.rc_volume.specs.Reading.{Opens}
-use Rattle.rc_run.specs.Steps.{root_key}
-use Rattle.rc_run.proofs.EachLemmas.{contains_want, opens_want, absent_still, copied_over-more}
+use Rattle.rc_run.specs.Copying.{goal_under}
+use Rattle.rc_run.proofs.ItemLemmas.{contains_want, opens_want, after_more, doable_still}
 use Rattle.rc_run.proofs.copying.copy_each.Goals as goal
 
-pub copy_file-requires-clause-opens : goal.copy_file-requires-clause-opens
-copy_file-requires-clause-opens g c κs within some =
-    let file = c.file-item.result in
-    subst (λ (wants : List Want). Opens wants (root_key file) 0 file.size) (sym c.requires.wants)
-    (opens_want _ file (contains_want c.args.files.now c.loop-file.file-index file c.loop-file-test.true (sym c.file-item.is) some))
+pub do_item-requires-clause-opens : goal.do_item-requires-clause-opens
+do_item-requires-clause-opens g c κs within read =
+    let item = c.item-item.result in
+    subst (λ (wants : List Want). Opens wants (key_of item.path) 0 item.facts.size) (sym c.requires.wants)
+    (opens_want _ item (contains_want c.args.terms.now.with_bytes c.args.items.now c.loop-item.item-index item c.loop-item-test.true (sym c.item-item.is) read))
 
-pub copy_file-requires-clause-absent : goal.copy_file-requires-clause-absent
-copy_file-requires-clause-absent g c κs within tells =
-    absent_still c.args.files.now c.loop-file.file-index c.file-item.result _ _ _ (c.requires.apart tells) c.loop-file-test.true c.file-item.is (c.requires.absent tells) (c.loop-file.invariant.copied tells)
+pub do_item-requires-clause-doable : goal.do_item-requires-clause-doable
+do_item-requires-clause-doable g c κs within tells =
+    doable_still c.args.terms.now c.args.items.now c.loop-item.item-index c.item-item.result _ _ _ _ c.requires.rising c.loop-item-test.true c.item-item.is (c.requires.doable tells) (c.loop-item.invariant.source tells) (c.loop-item.invariant.copied tells)
 
-pub loop-file-preserved : goal.loop-file-preserved
-loop-file-preserved g c = record {
+pub loop-item-preserved : goal.loop-item-preserved
+loop-item-preserved g c = record {
   copied = λ tells.
-      copied_over-more c.args.files.now c.loop-file.file-index c.file-item.result _ _ _ _ (c.requires.apart tells) c.loop-file-test.true c.file-item.is (c.loop-file.invariant.copied tells)
-      (c.in_ok-copy_file.ensures.copied tells) (c.copy_file.ensures.others tells).others;
-  source = λ tells. (c.copy_file.ensures.others tells).other_tree ∙ c.loop-file.invariant.source tells;
-  notes = λ tells. (c.copy_file.ensures.others tells).notes ∙ c.loop-file.invariant.notes tells;
-  opened = c.copy_file.ensures.opened ∙ c.loop-file.invariant.opened;
-  counts = λ part. omega (arith, c.loop-file.invariant.counts part, c.copy_file.ensures.counts part);
-  tally = omega (arith, c.loop-file.invariant.tally, c.copy_file.ensures.tally);
-  buffer = c.copy_file.ensures.buffer ∙ c.loop-file.invariant.buffer;
+      after_more c.args.terms.now c.args.items.now c.loop-item.item-index c.item-item.result _ _ _ _ c.requires.rising c.loop-item-test.true c.item-item.is (c.loop-item.invariant.copied tells)
+      (subst (λ (tree : Tree). get (g.S.Site.told c.do_item.new.site).target (key_of c.item-item.result.path) ≡ goal_under c.args.terms.now (Some c.item-item.result) (get tree (key_of c.item-item.result.path)) (get (g.S.Site.told c.loop-item.site).target (key_of c.item-item.result.path))) (c.loop-item.invariant.source tells) (c.in_ok-do_item.ensures.done tells)) (c.do_item.ensures.others tells).others;
+  source = λ tells. (c.do_item.ensures.others tells).other_tree ∙ c.loop-item.invariant.source tells;
+  notes = λ tells. (c.do_item.ensures.others tells).notes ∙ c.loop-item.invariant.notes tells;
+  opened = c.do_item.ensures.opened ∙ c.loop-item.invariant.opened;
+  counts = λ part. omega (arith, c.loop-item.invariant.counts part, c.do_item.ensures.counts part);
+  tally = omega (arith, c.loop-item.invariant.tally, c.do_item.ensures.tally);
+  buffer = c.do_item.ensures.buffer ∙ c.loop-item.invariant.buffer;
 }

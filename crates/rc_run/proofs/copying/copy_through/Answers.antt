@@ -4,7 +4,7 @@ use Rattle.std.specs.Prelude.{OnOk, IfErr}
 use Rattle.std.specs.FinMap.{get}
 use Rattle.std.proofs.lemmas.Result.{IfErr-weaker}
 use Rattle.rc_volume.specs.Site.{Told}
-use Rattle.rc_run.specs.Steps.{copied_over}
+use Rattle.rc_run.specs.Copying.{after_items}
 use Rattle.rc_run.specs.Outcome.{IsSiteFault, IsCaused, RisesIn, RisesInOr}
 use Rattle.rc_run.proofs.CauseLemmas.{IsCaused-weaker, RisesIn-absorbed}
 use Rattle.rc_run.proofs.copying.copy_through.Goals as goal
@@ -12,8 +12,11 @@ use Rattle.rc_run.proofs.copying.copy_through.Goals as goal
 pub copy_each-copied-requires-clause-room : goal.copy_each-copied-requires-clause-room
 copy_each-copied-requires-clause-room g c κs within = c.requires.room
 
-pub copy_each-copied-requires-clause-apart : goal.copy_each-copied-requires-clause-apart
-copy_each-copied-requires-clause-apart g c κs within = c.requires.apart
+pub copy_each-copied-requires-clause-rising : goal.copy_each-copied-requires-clause-rising
+copy_each-copied-requires-clause-rising g c κs within = c.requires.rising
+
+pub copy_each-copied-requires-clause-roots : goal.copy_each-copied-requires-clause-roots
+copy_each-copied-requires-clause-roots g c κs within = c.requires.roots
 
 pub copy_each-copied-requires-clause-sizes : goal.copy_each-copied-requires-clause-sizes
 copy_each-copied-requires-clause-sizes g c κs within = c.requires.sizes
@@ -24,12 +27,12 @@ copy_each-copied-requires-clause-wants g c κs within = c.requires.wants
 pub copy_each-copied-requires-clause-told : goal.copy_each-copied-requires-clause-told
 copy_each-copied-requires-clause-told g c κs within = c.requires.told
 
-pub copy_each-copied-requires-clause-absent : goal.copy_each-copied-requires-clause-absent
-copy_each-copied-requires-clause-absent g c κs within = c.requires.absent
+pub copy_each-copied-requires-clause-doable : goal.copy_each-copied-requires-clause-doable
+copy_each-copied-requires-clause-doable g c κs within = c.requires.doable
 
 pub returns-clause-copied : goal.returns-clause-copied
 returns-clause-copied g c = λ tells.
-    let copied_to = λ (told : Told). OnOk c.copy_each-copied.result ((key : List (List ℕ)) → get told.target key ≡ copied_over c.args.files.now (g.S.Reader.Reader.bytes c.args.reader.now) (g.S.Site.told c.args.site.now).target key) in
+    let copied_to = λ (told : Told). OnOk c.copy_each-copied.result ((key : List (List ℕ)) → get told.target key ≡ after_items c.args.terms.now c.args.items.now (g.S.Site.told c.args.site.now).source (g.S.Site.told c.args.site.now).target key) in
     subst copied_to (sym (c.absorb.ensures.same tells)) (c.copy_each-copied.ensures.copied tells)
 
 pub returns-clause-source : goal.returns-clause-source

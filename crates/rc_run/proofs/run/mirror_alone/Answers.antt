@@ -1,14 +1,13 @@
 -- What the steps answer is the outcome.
-use Rattle.std.proofs.Common.{◌≡◌, true, List, ℕ}
+use Rattle.std.proofs.Common.{◌≡◌, ◌++◌, true, ℕ, ap, ◌∙◌}
 use Rattle.std.specs.Prelude.{map, string_bytes}
 use Rattle.rc_volume.specs.Faults.{Rose}
-use Rattle.rc_run.specs.Goal.{copied_files}
+use Rattle.rc_run.specs.Goal.{items_at}
 use Rattle.rc_run.specs.Outcome.{RisesIn}
-use Rattle.rc_run.specs.Report.{report_of}
-use Rattle.rc_run.specs.declared.outcome.Outcome.TheVariants.{Done}
+use Rattle.rc_report.specs.Report.{report_of}
 use Rattle.rc_run.proofs.AnswerLemmas.{complete, stopped, words_answer}
 use Rattle.rc_run.proofs.CauseLemmas.{not_done}
-use Rattle.rc_run.proofs.ReportLemmas.{AppendsFront-all}
+use Rattle.rc_run.proofs.GoalLemmas.{AppendsFront-all}
 use Rattle.rc_run.proofs.run.mirror_alone.Goals as goal
 
 pub returns-in-Err-clause-mirrored : goal.returns-in-Err-clause-mirrored
@@ -37,4 +36,4 @@ returns-in-Err-clause-complete g c = λ tells never never_sink.
 
 pub returns-in-Ok-clause-front : goal.returns-in-Ok-clause-front
 returns-in-Ok-clause-front g c = λ tells hears.
-    AppendsFront-all (g.K.Sink.received c.args.sink.now) (report_of (copied_files (g.S.Site.told c.args.site).source (g.S.Site.told c.args.site).target)) (g.K.Sink.received c.run.new.sink) (c.in-Ok.ensures.report tells hears)
+    AppendsFront-all (g.K.Sink.received c.args.sink.now) (report_of (items_at (map (λ (w : _). string_bytes w) c.args.words.now) (g.S.Site.told c.args.site) (g.C.Clock.last c.run.new.clock))) (g.K.Sink.received c.run.new.sink) (c.in-Ok.ensures.report tells hears ∙ ap (λ (m : ℕ). g.K.Sink.received c.args.sink.now ++ report_of (items_at (map (λ (w : _). string_bytes w) c.args.words.now) (g.S.Site.told c.args.site) m)) c.in-Ok.ensures.moment)

@@ -1,0 +1,138 @@
+-- What a drill prints of a site text, and what it answers.
+use Rattle.std.specs.Prelude.{◌≡◌, ◌⊎◌, ℕ, ◌≤◌, Bool, true, List, [], ◌∷◌, ◌++◌, length, codes, decimal, encode_utf8_all, Some, None}
+use Rattle.rc_tree.specs.declared.moment.TheConstants.{GREATEST_MOMENT}
+use Rattle.rc_volume.specs.Site.{Told}
+use Rattle.rc_volume.specs.Streams.{AppendsFront}
+use Rattle.rc_run.specs.declared.outcome.Outcome.{Outcome}
+use Rattle.rc_run.specs.declared.outcome.Outcome.TheVariants.{Done, NoMemory}
+use Rattle.rc_run.specs.Answers.{start_refusal}
+use Rattle.rc_run.specs.Goal.{IsMirrored, items_at, start_at}
+use Rattle.rc_run.specs.Outcome.{line_of, status_of}
+use Rattle.rc_report.specs.Report.{bits_of, report_of, totals_of}
+use Rattle.drill.specs.declared.run.TheConstants.{GREATEST_TEXT}
+use Rattle.drill.specs.declared.site_file.SiteFile.{SiteFile}
+use Rattle.drill.specs.SiteText.{IsFlat, site_text}
+
+-- What is printed
+
+-- how a run ended: what it reported, its outcome, and what its site tells then
+pub record End : Type 0 where
+  pub report : List ℕ
+  pub outcome : Outcome
+  pub now : Told
+
+-- a line and its end; nothing for the empty text
+abbrev pub whole_line : List ℕ → List ℕ
+whole_line [] = []
+whole_line (c ∷ cs) = encode_utf8_all (c ∷ cs) ++ codes "\n"
+
+-- the line of a refusal or a fault, where there is one, and the line of the exit status
+abbrev pub status_lines : Outcome → List ℕ
+status_lines outcome = whole_line (line_of outcome) ++ (codes "STATUS\t" ++ (decimal (status_of outcome) ++ codes "\n"))
+
+-- the report, the lines of the outcome and the site text of the end
+abbrev pub drill_text : ℕ → End → List ℕ
+drill_text moment end = end.report ++ status_lines end.outcome ++ site_text moment end.now.source end.now.target
+
+-- Texts and sites
+
+-- the text is the one spelling of this site, and not too long
+pub record IsSiteText (text : List ℕ) (file : SiteFile) : Type 0 where
+  pub short : length text ≤ GREATEST_TEXT
+  pub source : IsFlat file.source
+  pub target : IsFlat file.target
+  pub moment : file.moment ≤ GREATEST_MOMENT
+  pub spelled : text ≡ site_text file.moment file.source file.target
+
+-- no site has this text
+abbrev pub IsNoSite : List ℕ → Type 0
+IsNoSite text = (file : SiteFile) → IsSiteText text file → ⊥
+
+-- the site of a file: its trees and no record
+abbrev pub start_of : SiteFile → Told
+start_of file = record { source = file.source; target = file.target; notes = [] }
+
+-- Runs
+
+-- refused for its words or its site, with nothing reported and nothing changed
+pub record IsRefused (words : List (List ℕ)) (start : Told) (end : End) : Type 0 where
+  pub refused : start_refusal words start ≡ Some end.outcome
+  pub report : end.report ≡ []
+  pub now : end.now ≡ start
+
+-- done as the rules want it: the report and the bits are those of the decided keys, and the trees are the goals
+pub record IsCarriedOut (words : List (List ℕ)) (moment : ℕ) (start : Told) (end : End) : Type 0 where
+  pub accepted : start_refusal words start ≡ None
+  pub outcome : end.outcome ≡ Done (bits_of (totals_of (items_at words start moment))) moment
+  pub report : end.report ≡ report_of (items_at words start moment)
+  pub now : IsMirrored (start_at words start) moment end.now
+
+-- how a run of these words ends by the rules
+abbrev pub IsRun : List (List ℕ) → ℕ → Told → End → Type 0
+IsRun words moment start end = IsRefused words start end ⊎ IsCarriedOut words moment start end
+
+-- ended for want of memory: a front of the report, and the source as it was
+pub record IsCutShort (words : List (List ℕ)) (moment : ℕ) (start : Told) (end : End) : Type 0 where
+  pub outcome : end.outcome ≡ NoMemory
+  pub report : AppendsFront [] (report_of (items_at words start moment)) end.report
+  pub source : end.now.source ≡ start.source
+
+-- what is printed and answered of a run that ended so
+pub record Shows (moment : ℕ) (ended : End → Type 0) (printed : List ℕ) (status : ℕ) : Type 0 where
+  pub end : End
+  pub ends : ended end
+  pub text : printed ≡ drill_text moment end
+  pub answer : status ≡ status_of end.outcome
+
+-- Drills
+
+-- a text that no site has
+pub record RefusesText (text printed : List ℕ) (status : ℕ) : Type 0 where
+  pub none : IsNoSite text
+  pub line : printed ≡ codes "ERROR: site text\n"
+  pub answer : status ≡ 16
+
+-- the text of a site, with what is printed and answered of a run over it that ended so
+pub record RunsText (ended : SiteFile → End → Type 0) (text printed : List ℕ) (status : ℕ) : Type 0 where
+  pub file : SiteFile
+  pub spells : IsSiteText text file
+  pub shows : Shows file.moment (ended file) printed status
+
+-- what a drill prints of a text and answers, where nothing fails and memory suffices
+abbrev pub IsDrill : List (List ℕ) → List ℕ → List ℕ → ℕ → Type 0
+IsDrill words text printed status =
+    RefusesText text printed status ⊎ RunsText (λ file. IsRun words file.moment (start_of file)) text printed status
+
+-- the input could not be read
+pub record FailsToRead (failed : Type 0) (printed : List ℕ) (status : ℕ) : Type 0 where
+  pub cause : failed
+  pub line : printed ≡ codes "ERROR: input\n"
+  pub answer : status ≡ 16
+
+-- what a drill is about to print and to answer
+abbrev pub Prints : Type 0 → List (List ℕ) → List ℕ → List ℕ → ℕ → Type 0
+Prints input_failed words text printed status =
+    FailsToRead input_failed printed status ⊎ IsDrill words text printed status
+    ⊎ RunsText (λ file. IsCutShort words file.moment (start_of file)) text printed status
+
+-- all of it was written and that is answered; or a front, where writing failed or memory ran out
+abbrev pub Writes : Type 0 → List ℕ → List ℕ → ℕ → List ℕ → ℕ → Type 0
+Writes output_failed old printed answer new status =
+    ((new ≡ old ++ printed) × (status ≡ answer))
+    ⊎ (AppendsFront old printed new × ((output_failed × (status ≡ 16)) ⊎ (status ≡ 32)))
+
+-- one of the texts that are printed is written
+pub record WritesOne (prints : List ℕ → ℕ → Type 0) (output_failed : Type 0) (old new : List ℕ) (status : ℕ) : Type 0 where
+  pub printed : List ℕ
+  pub answer : ℕ
+  pub is_printed : prints printed answer
+  pub writes : Writes output_failed old printed answer new status
+
+-- the same, or memory ran out before the first byte
+abbrev pub Drills : Type 0 → Type 0 → List (List ℕ) → List ℕ → List ℕ → List ℕ → ℕ → Type 0
+Drills input_failed output_failed words text old new status =
+    WritesOne (Prints input_failed words text) output_failed old new status ⊎ ((new ≡ old) × (status ≡ 32))
+
+-- it holds of some bytes: of those that are told, where any are
+abbrev pub OfSome : Bool → List ℕ → (List ℕ → Type 0) → Type 0
+OfSome tells told holds = (bytes : List ℕ) × (tells ≡ true → bytes ≡ told) × holds bytes

@@ -1,0 +1,6 @@
+pub mod Class
+pub mod Codes
+pub mod Goal
+pub mod Items
+pub mod Start
+pub mod Units

@@ -1,0 +1,27 @@
+//! What a mirror decides, as data: the class of a key, its act, the plan of a run with its units, and what a run
+//! leaves at a key by what was decided there.
+//!
+//! Nothing here sees a job or a site. The layers above say of which key which item is decided; the definitions of this
+//! crate say what such items mean: the goal of a key ([`copied_props`] computes the part that code needs), the plan of a
+//! start, and the units of its copies.
+#![tactic(auto)]
+
+mod class;
+mod decision;
+mod facts;
+mod item;
+mod laws;
+mod plan;
+mod props;
+mod rules;
+#[cfg(test)]
+mod tests;
+
+pub use class::{Class, class_of};
+pub use decision::{Act, After, Reason};
+pub use facts::{Facts, Grain, same_time};
+pub use item::{Item, Items};
+pub use laws::{one_plan, ranges_fill_a_file};
+pub use plan::{Plan, unit_count};
+pub use props::{copied_props, fresh_props};
+pub use rules::{GivenUp, Rules};

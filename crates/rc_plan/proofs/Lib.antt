@@ -1,0 +1,4 @@
+pub mod CauseLemmas
+pub mod ListLemmas
+pub mod MergeLemmas
+pub mod PlanLemmas

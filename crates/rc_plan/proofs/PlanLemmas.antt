@@ -1,0 +1,164 @@
+-- That the merge of what the listings showed is the plan of the two trees.
+use Rattle.std.proofs.Common.{◌≡◌, ℕ, ◌≤◌, ◌^◌, Bool, true, false, cond, ◌&&◌, ◌||◌, List, [], ◌∷◌, Option, Some, None, map, leb-true, refl, sym, ap, subst, ◌∙◌}
+use Rattle.std.proofs.lemmas.Bool.{true≢false}
+use Rattle.std.proofs.lemmas.List.Elements.{All-nil, All-cons}
+use Rattle.std.specs.Prelude.{All, IfSome, option_map}
+use Rattle.std.specs.List.{list_all}
+use Rattle.std.specs.FinMap.{get, is_sorted, retain_keys, get-entries}
+use Rattle.std.specs.FinMap.Entries.{find, below_all}
+use Rattle.std.specs.Ordering.{eq_by_cmp, is_lt}
+use Rattle.rc_tree.specs.declared.attr.Kind.{Kind}
+use Rattle.rc_tree.specs.declared.attr.Kind.TheVariants.{File, Dir}
+use Rattle.rc_tree.specs.declared.entry.Entry.{Entry}
+use Rattle.rc_tree.specs.Path.{key_cmp, key_of}
+use Rattle.rc_tree.specs.Tree.{Tree, Node}
+use Rattle.rc_class.specs.Class.{facts_of}
+use Rattle.rc_job.specs.declared.job.Job.{Job}
+use Rattle.rc_filter.specs.Decided.{decided_at, is_file, is_file_kind, is_in_root, item_of, spelling_of}
+use Rattle.rc_volume.specs.Site.{entry_of}
+use Rattle.rc_plan.specs.declared.found.Found.{Found}
+use Rattle.rc_plan.specs.Merge.{AreListed, found_at, found_of, item_from, placed}
+use Rattle.rc_plan.specs.Roots.{AreRootOf, are_built, are_in_order, are_listed_built, is_file_entry, is_small_entry, keyed, root_key, root_nodes, shown}
+use Rattle.rc_plan.proofs.ListLemmas.{get_kept}
+
+pub first_of : (a b : Bool) → a && b ≡ true → a ≡ true
+first_of true b e = refl
+first_of false b e = e
+
+pub second_of : (a b : Bool) → a && b ≡ true → b ≡ true
+second_of true b e = e
+second_of false b e = absurd (true≢false (sym e))
+
+-- Files that were listed
+
+below_same : (key : List (List ℕ)) (entries : List Entry) → below_all key_cmp key (map placed (map found_of entries)) ≡ below_all key_cmp key (map keyed entries)
+below_same key [] = refl
+below_same key (entry ∷ entries) = ap (λ b. is_lt (key_cmp key (root_key entry)) && b) (below_same key entries)
+
+sorted_same : (entries : List Entry) → is_sorted key_cmp (map placed (map found_of entries)) ≡ is_sorted key_cmp (map keyed entries)
+sorted_same [] = refl
+sorted_same (entry ∷ entries) =
+    ap (λ b. b && is_sorted key_cmp (map placed (map found_of entries))) (below_same (root_key entry) entries)
+    ∙ ap (λ b. below_all key_cmp (root_key entry) (map keyed entries) && b) (sorted_same entries)
+
+file_kind : (k : Kind) → is_file_kind k ≡ true → k ≡ File
+file_kind File e = refl
+file_kind Dir e = absurd (true≢false (sym e))
+
+all_files : (entries : List Entry) → list_all is_file_entry entries ≡ true → All (λ found. found.facts.kind ≡ File) (map found_of entries)
+all_files [] e = All-nil (λ found. found.facts.kind ≡ File)
+all_files (entry ∷ entries) e =
+    All-cons (λ found. found.facts.kind ≡ File) (found_of entry) (map found_of entries)
+    (file_kind entry.kind (first_of (is_file_entry entry) _ e)) (all_files entries (second_of (is_file_entry entry) _ e))
+
+all_roots : (entries : List Entry) → All (λ found. is_in_root (key_of found.path) ≡ true) (map found_of entries)
+all_roots [] = All-nil (λ found. is_in_root (key_of found.path) ≡ true)
+all_roots (entry ∷ entries) = All-cons (λ found. is_in_root (key_of found.path) ≡ true) (found_of entry) (map found_of entries) refl (all_roots entries)
+
+small_files : (entries : List Entry) → list_all is_small_entry entries ≡ true → list_all is_file_entry entries ≡ true
+small_files [] e = refl
+small_files (entry ∷ entries) e =
+    ap (λ b. b && list_all is_file_entry entries) (first_of (is_file_kind entry.kind) _ (first_of (is_small_entry entry) _ e))
+    ∙ small_files entries (second_of (is_small_entry entry) _ e)
+
+all_small : (entries : List Entry) → list_all is_small_entry entries ≡ true → All (λ found. found.facts.size ≤ 2 ^ 40) (map found_of entries)
+all_small [] e = All-nil (λ found. found.facts.size ≤ 2 ^ 40)
+all_small (entry ∷ entries) e =
+    All-cons (λ found. found.facts.size ≤ 2 ^ 40) (found_of entry) (map found_of entries)
+    (leb-true entry.size (2 ^ 40) (second_of (is_file_kind entry.kind) _ (first_of (is_small_entry entry) _ e)))
+    (all_small entries (second_of (is_small_entry entry) _ e))
+
+listed : (entries : List Entry) → are_in_order entries ≡ true → list_all is_file_entry entries ≡ true → AreListed (map found_of entries)
+listed entries order files = record { rising = sorted_same entries ∙ order; files = all_files entries files; roots = all_roots entries }
+
+pub ours_listed : (source target : List Entry) (found : List Found) → found ≡ map found_of source → are_in_order source ≡ true → are_listed_built source target ≡ true → AreListed found
+ours_listed source target found e order built = subst AreListed (sym e) (listed source order (small_files source (first_of (list_all is_small_entry source) _ built)))
+
+pub theirs_listed : (source target : List Entry) (found : List Found) → found ≡ map found_of target → are_in_order target ≡ true → are_listed_built source target ≡ true → AreListed found
+theirs_listed source target found e order built = subst AreListed (sym e) (listed target order (second_of (list_all is_small_entry source) _ built))
+
+pub ours_small : (source target : List Entry) (found : List Found) → found ≡ map found_of source → are_listed_built source target ≡ true → All (λ found. found.facts.size ≤ 2 ^ 40) found
+ours_small source target found e built = subst (All (λ f. f.facts.size ≤ 2 ^ 40)) (sym e) (all_small source (first_of (list_all is_small_entry source) _ built))
+
+-- What was listed, and the tree
+
+all_keyed : (test : Entry → Bool) (entries : List Entry) → list_all test entries ≡ list_all (λ (x : List (List ℕ) × Entry). test x.1) (map keyed entries)
+all_keyed test [] = refl
+all_keyed test (entry ∷ entries) = ap (λ b. test entry && b) (all_keyed test entries)
+
+all_shown : (test : Entry → Bool) (nodes : List (List (List ℕ) × Node)) → list_all (λ (x : List (List ℕ) × Entry). test x.1) (map shown nodes) ≡ list_all (λ (p : List (List ℕ) × Node). test (entry_of p.1)) nodes
+all_shown test [] = refl
+all_shown test (p ∷ nodes) = ap (λ b. test (entry_of p.1) && b) (all_shown test nodes)
+
+-- all that was listed passes where all that stands there does
+all_root : (test : Entry → Bool) (tree : Tree) (entries : List Entry) → AreRootOf tree entries → list_all test entries ≡ list_all (λ (p : List (List ℕ) × Node). test (entry_of p.1)) (root_nodes tree)
+all_root test tree entries root =
+    all_keyed test entries ∙ ap (list_all (λ (x : List (List ℕ) × Entry). test x.1)) root ∙ all_shown test (root_nodes tree)
+
+pub built_same : (ours theirs : Tree) (source target : List Entry) → AreRootOf ours source → AreRootOf theirs target → are_built ours theirs ≡ are_listed_built source target
+built_same ours theirs source target mine yours =
+    ap (λ b. b && list_all (λ (p : List (List ℕ) × Node). is_file_kind p.1.kind) (root_nodes theirs)) (sym (all_root is_small_entry ours source mine))
+    ∙ ap (λ b. list_all is_small_entry source && b) (sym (all_root is_file_entry theirs target yours))
+
+placed_keyed : (entries : List Entry) → map placed (map found_of entries) ≡ map (λ (x : List (List ℕ) × Entry). (x.0, found_of x.1)) (map keyed entries)
+placed_keyed [] = refl
+placed_keyed (entry ∷ entries) = ap (λ (es : List (List (List ℕ) × Found)). placed (found_of entry) ∷ es) (placed_keyed entries)
+
+found_shown : (nodes : List (List (List ℕ) × Node)) (key : List (List ℕ)) → find key_cmp key (map (λ (x : List (List ℕ) × Entry). (x.0, found_of x.1)) (map shown nodes)) ≡ option_map (λ (node : Node). found_of (entry_of node)) (find key_cmp key nodes)
+found_shown [] key = refl
+found_shown (p ∷ nodes) key =
+    elim (eq_by_cmp key_cmp key p.0) as (λ b. cond b (Some (found_of (entry_of p.1))) (find key_cmp key (map (λ (x : List (List ℕ) × Entry). (x.0, found_of x.1)) (map shown nodes))) ≡ option_map (λ (node : Node). found_of (entry_of node)) (cond b (Some p.1) (find key_cmp key nodes))) [
+      | true ↦ refl
+      | false ↦ found_shown nodes key
+    ]
+
+find_root : (tree : Tree) (key : List (List ℕ)) → find key_cmp key (root_nodes tree) ≡ cond (is_in_root key) (get tree key) None
+find_root tree key = sym (get-entries (retain_keys tree is_in_root) key) ∙ get_kept tree key
+
+-- what a listing has at a key is what the tree has there, in its root
+found_root : (tree : Tree) (entries : List Entry) (key : List (List ℕ)) → AreRootOf tree entries → found_at (map found_of entries) key ≡ option_map (λ (node : Node). found_of (entry_of node)) (cond (is_in_root key) (get tree key) None)
+found_root tree entries key root =
+    ap (find key_cmp key) (placed_keyed entries ∙ ap (map (λ (x : List (List ℕ) × Entry). (x.0, found_of x.1))) root)
+    ∙ found_shown (root_nodes tree) key
+    ∙ ap (option_map (λ (node : Node). found_of (entry_of node))) (find_root tree key)
+
+found_passes : (test : Node → Bool) (nodes : List (List (List ℕ) × Node)) (key : List (List ℕ)) → list_all (λ (p : List (List ℕ) × Node). test p.1) nodes ≡ true → IfSome (find key_cmp key nodes) (λ node. test node ≡ true)
+found_passes test [] key e = tt
+found_passes test (p ∷ nodes) key e =
+    elim (eq_by_cmp key_cmp key p.0) as (λ b. IfSome (cond b (Some p.1) (find key_cmp key nodes)) (λ node. test node ≡ true)) [
+      | true ↦ first_of (test p.1) _ e
+      | false ↦ found_passes test nodes key (second_of (test p.1) _ e)
+    ]
+
+-- each entry of a root that is mirrored so far is a file
+file_at : (tree : Tree) (entries : List Entry) (name : List ℕ) → AreRootOf tree entries → list_all is_file_entry entries ≡ true → IfSome (get tree (name ∷ [])) (λ node. is_file_kind node.kind ≡ true)
+file_at tree entries name root files =
+    subst (λ (o : Option Node). IfSome o (λ node. is_file_kind node.kind ≡ true)) (find_root tree (name ∷ []))
+    (found_passes (λ node. is_file_kind node.kind) (root_nodes tree) (name ∷ []) (sym (all_root is_file_entry tree entries root) ∙ files))
+
+decided_so : (job : Job) (moment : ℕ) (source target : Option Node) → IfSome source (λ node. is_file_kind node.kind ≡ true) → IfSome target (λ node. is_file_kind node.kind ≡ true) → item_from job moment (option_map (λ (node : Node). found_of (entry_of node)) source) (option_map (λ (node : Node). found_of (entry_of node)) target) ≡ cond (is_file source || is_file target) (item_of job moment (spelling_of source ∷ []) (spelling_of target ∷ []) (option_map facts_of source) (option_map facts_of target)) None
+decided_so job moment None None mine yours = refl
+decided_so job moment None (Some there) mine yours =
+    ap (λ b. cond b (item_of job moment ([] ∷ []) (there.spelling ∷ []) None (Some (facts_of there))) None) (sym yours)
+decided_so job moment (Some node) target mine yours =
+    by_target target
+    ∙ ap (λ b. cond (b || is_file target) (item_of job moment (node.spelling ∷ []) (spelling_of target ∷ []) (Some (facts_of node)) (option_map facts_of target)) None) (sym mine)
+  where
+    by_target : (t : Option Node) → item_from job moment (Some (found_of (entry_of node))) (option_map (λ (n : Node). found_of (entry_of n)) t) ≡ item_of job moment (node.spelling ∷ []) (spelling_of t ∷ []) (Some (facts_of node)) (option_map facts_of t)
+    by_target None = refl
+    by_target (Some there) = refl
+
+-- what the merge has at a key is what is decided there of the two trees
+pub decided : (job : Job) (moment : ℕ) (ours theirs : Tree) (source target : List Entry) (key : List (List ℕ)) → AreRootOf ours source → AreRootOf theirs target → are_listed_built source target ≡ true → item_from job moment (found_at (map found_of source) key) (found_at (map found_of target) key) ≡ decided_at job ours theirs moment key
+decided job moment ours theirs source target key mine yours built =
+    ap (λ (x : Option Found). item_from job moment x (found_at (map found_of target) key)) (found_root ours source key mine)
+    ∙ ap (λ (y : Option Found). item_from job moment (option_map (λ (node : Node). found_of (entry_of node)) (cond (is_in_root key) (get ours key) None)) y) (found_root theirs target key yours)
+    ∙ by_key key
+  where
+    by_key : (key : List (List ℕ)) → item_from job moment (option_map (λ (node : Node). found_of (entry_of node)) (cond (is_in_root key) (get ours key) None)) (option_map (λ (node : Node). found_of (entry_of node)) (cond (is_in_root key) (get theirs key) None)) ≡ decided_at job ours theirs moment key
+    by_key [] = refl
+    by_key (name ∷ []) =
+        decided_so job moment (get ours (name ∷ [])) (get theirs (name ∷ []))
+        (file_at ours source name mine (small_files source (first_of (list_all is_small_entry source) _ built)))
+        (file_at theirs target name yours (second_of (list_all is_small_entry source) _ built))
+    by_key (name ∷ next ∷ names) = refl

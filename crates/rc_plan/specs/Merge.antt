@@ -1,0 +1,61 @@
+-- How the listings of the two roots are decided key by key.
+use Rattle.std.specs.Prelude.{◌≡◌, ℕ, true, List, [], ◌∷◌, Option, Some, None, option_map, map, All}
+use Rattle.std.specs.FinMap.{find, is_sorted}
+use Rattle.std.specs.declared.cmp.Ordering.{Ordering}
+use Rattle.std.specs.declared.cmp.Ordering.TheVariants.{Less, Equal, Greater}
+use Rattle.rc_tree.specs.declared.attr.Kind.TheVariants.{File}
+use Rattle.rc_tree.specs.declared.entry.Entry.{Entry}
+use Rattle.rc_tree.specs.Path.{key_of, key_cmp}
+use Rattle.rc_class.specs.declared.item.Item.{Item}
+use Rattle.rc_job.specs.declared.job.Job.{Job}
+use Rattle.rc_filter.specs.Decided.{is_in_root, item_of}
+use Rattle.rc_plan.specs.declared.found.Found.{Found}
+
+-- what is decided by of an entry of a root
+abbrev pub found_of : Entry → Found
+found_of entry = record {
+  path = entry.name ∷ [];
+  facts = record { kind = entry.kind; size = entry.size; written = entry.props.written; attr = entry.props.attr };
+}
+
+-- one that was found, under its key
+abbrev pub placed : Found → List (List ℕ) × Found
+placed found = (key_of found.path, found)
+
+-- the one at a key
+abbrev pub found_at : List Found → List (List ℕ) → Option Found
+found_at all key = find key_cmp key (map placed all)
+
+-- files of a root, in the order of their keys
+pub record AreListed (all : List Found) : Type 0 where
+  pub rising : is_sorted key_cmp (map placed all) ≡ true
+  pub files : All (λ found. found.facts.kind ≡ File) all
+  pub roots : All (λ found. is_in_root (key_of found.path) ≡ true) all
+
+-- as it is spelled
+abbrev pub path_in : Option Found → List (List ℕ)
+path_in None = []
+path_in (Some found) = found.path
+
+-- the item of a key at which the two sides have these
+abbrev pub item_from : Job → ℕ → Option Found → Option Found → Option Item
+item_from job moment source target =
+    item_of job moment (path_in source) (path_in target) (option_map (λ found. found.facts) source) (option_map (λ found. found.facts) target)
+
+-- what the two sides have at the least key of both
+abbrev pub by_key : Ordering → Found → Found → Option Found × Option Found
+by_key Less source target = (Some source, None)
+by_key Equal source target = (Some source, Some target)
+by_key Greater source target = (None, Some target)
+
+abbrev pub least : List Found → List Found → Option Found × Option Found
+least [] [] = (None, None)
+least (source ∷ ours) [] = (Some source, None)
+least [] (target ∷ theirs) = (None, Some target)
+least (source ∷ ours) (target ∷ theirs) = by_key (key_cmp (key_of source.path) (key_of target.path)) source target
+
+-- those behind the first, where that was taken
+abbrev pub behind : Option Found → List Found → List Found
+behind None all = all
+behind (Some found) [] = []
+behind (Some found) (first ∷ rest) = rest

@@ -1,0 +1,11 @@
+use Rattle.std.proofs.Common.{◌∙◌, rules, tests, string_bytes}
+use Rattle.std.specs.Str.{str_eq_ignore_ascii_case}
+use Rattle.std.proofs.lemmas.Iterator.{YieldsList-from_slice}
+use Rattle.std.proofs.lemmas.Iterator.Search.{any_from_yields_List}
+use Rattle.rc_run.proofs.WordLemmas.{any_word}
+use Rattle.rc_run.proofs.words.has.Goals as goal
+
+pub returns : goal.returns
+returns c =
+    any_from_yields_List (λ w. str_eq_ignore_ascii_case c.args.name.now (string_bytes w)) _ _ c.any.result c.any.ensures.ran (YieldsList-from_slice c.args.words.now c.iter.ensures.rest) (λ x b q k. search (rules, tests))
+    ∙ any_word (str_eq_ignore_ascii_case c.args.name.now) c.args.words.now
