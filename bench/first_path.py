@@ -1,12 +1,11 @@
 #!/usr/bin/env python3
 """Measures the program drill on site texts: its time and its memory as they grow.
 
-bench/first_path.py             10,000 and then 20,000 files of 1 KiB in the source's root
-bench/first_path.py --standing  the same with as many older files on the target
-bench/first_path.py --large     few long files: 50 MB and then 100 MB of text
+bench/first_path.py [SHAPE ..]    these shapes, or all of them, each once and then at double size
 
-For each text it prints the least time of three runs of drill, that time over the one before, and the peak memory over
-the text's size. The program has to be built: ./run drill SRC DST < samples/first.site
+For each text it prints the least processor time of three runs of drill, that time over the one before, and the peak
+memory: over the text's size, and for each entry that the two trees have together in the end. The program has to be built:
+./run --build drill
 """
 import argparse
 import hashlib
@@ -14,16 +13,26 @@ import os
 import subprocess
 import sys
 import tempfile
-import time
-from itertools import chain
+from collections import namedtuple
 from pathlib import Path
 
 PROGRAM = Path(__file__).resolve().parent.parent / "crates" / "drill" / "out" / "drill"
 MOMENT = "133485408000000000"
 BEFORE = "133485407990000000"
 MB = 1_000_000
-LONG_FILE = 5 * MB
 RUNS = 3
+
+# what is measured: how many files of which size the source has, and what the target has beside them
+Shape = namedtuple("Shape", "about files size beside")
+
+SHAPES = {
+    "short": Shape("files of 1 KiB, nothing on the target", 10_000, 1024, None),
+    "empty": Shape("files without bytes, nothing on the target", 40_000, 0, None),
+    "standing": Shape("files of 1 KiB, each older and longer on the target", 10_000, 1024, "standing"),
+    "before": Shape("files without bytes before as many extras", 40_000, 0, "g{:08}"),
+    "between": Shape("files without bytes between as many extras", 40_000, 0, "f{:08}x"),
+    "long": Shape("few files of 5 MB, nothing on the target", 5, 5 * MB, None),
+}
 
 
 def content(seed, size):
@@ -32,78 +41,102 @@ def content(seed, size):
 
 
 def file_line(name, written, data):
-    return "\t".join(["F", name, "A", MOMENT, written, "-", "-", "-", str(len(data)), data.hex()]) + "\n"
+    return "\t".join(["F", name, "A", MOMENT, written, "-", "-", "-", str(len(data)), data.hex() or "-"]) + "\n"
 
 
-def write_site(path, sizes, standing):
-    """Writes a site text whose source has files of these sizes. The target is empty, or has older files of the same
-    names, each a little longer."""
+def source_line(number, size, letter="f"):
+    return file_line(f"{letter}{number:08}", MOMENT, content(number, size))
+
+
+def target_lines(shape, files):
+    """What the target has at the start."""
+    if shape.beside == "standing":
+        return (file_line(f"F{number:08}", BEFORE, content(-number - 1, shape.size + 10)) for number in range(files))
+    if shape.beside:
+        return (file_line(shape.beside.format(number), MOMENT, b"") for number in range(files))
+    return iter(())
+
+
+def wanted_lines(shape, files):
+    """What the target has at the end: the source's files, under the spelling that stood, and what was beside them."""
+    letter = "F" if shape.beside == "standing" else "f"
+    extras = target_lines(shape, files) if shape.beside and shape.beside != "standing" else iter(())
+    for number in range(files):
+        yield source_line(number, shape.size, letter)
+        if shape.beside == SHAPES["between"].beside:
+            yield next(extras)
+    yield from extras
+
+
+def write_site(path, shape, files):
     with open(path, "w", newline="\n") as out:
         out.write(f"SITE\t1\nMOMENT\t{MOMENT}\nSOURCE\n")
-        for number, size in enumerate(sizes):
-            out.write(file_line(f"f{number:08}", MOMENT, content(number, size)))
+        out.writelines(source_line(number, shape.size) for number in range(files))
         out.write("TARGET\n")
-        for number, size in enumerate(sizes) if standing else ():
-            out.write(file_line(f"F{number:08}", BEFORE, content(-number - 1, size + 10)))
+        out.writelines(target_lines(shape, files))
         out.write("RECORD\t-\nEND\n")
 
 
-def drill(text):
+def drill(text, shape, files):
     """Runs drill over a site text, and gives its seconds and its peak memory in bytes."""
     with open(text, "rb") as site, tempfile.TemporaryFile() as out:
-        start = time.monotonic()
         program = subprocess.Popen([PROGRAM, "SRC", "DST"], stdin=site, stdout=out)
         _, status, usage = os.wait4(program.pid, 0)
-        seconds = time.monotonic() - start
+        seconds = usage.ru_utime + usage.ru_stime
         program.returncode = os.waitstatus_to_exitcode(status)
-        if program.returncode != 1:
+        wanted = 3 if shape.beside and shape.beside != "standing" else 1
+        if program.returncode != wanted:
             sys.exit(f"drill ended with {program.returncode}")
-        check_output(text, out)
+        check_output(out, shape, files)
     return seconds, usage.ru_maxrss * 1024
 
 
-def files_of_source(lines):
-    """The lines of files named as the source names its own."""
-    return (line for line in lines if line.startswith(b"F\tf"))
-
-
-def check_output(text, out):
-    """Looks whether the target at the end is the source of the text, but for the spelling of names that stood. It goes
-    line by line: a process that is started counts the memory of the one that starts it as its own peak."""
+def check_output(out, shape, files):
+    """Looks whether the target at the end is what it has to be. It goes line by line: a process that is started counts
+    the memory of the one that starts it as its own peak."""
     out.seek(0)
     for line in out:
         if line == b"TARGET\n":
             break
-    with open(text, "rb") as site:
-        files = (line for line in site if line.startswith(b"F\t"))
-        for wanted in chain(files_of_source(files), [b"RECORD\t-\n", b"END\n", b""]):
-            if out.readline() not in (wanted, wanted.replace(b"F\tf", b"F\tF", 1)):
-                sys.exit("the target is not the source")
+    for wanted in wanted_lines(shape, files):
+        if out.readline() != wanted.encode():
+            sys.exit("the target is not the one that the rules define")
+    if out.read() != b"RECORD\t-\nEND\n":
+        sys.exit("the output does not end behind the target")
+
+
+def measure(shape, folder):
+    before = None
+    for files in (shape.files, 2 * shape.files):
+        text = Path(folder) / "site"
+        write_site(text, shape, files)
+        runs = [drill(text, shape, files) for _ in range(RUNS)]
+        seconds = min(run[0] for run in runs)
+        peak = max(run[1] for run in runs)
+        ratio = "" if before is None else f", {seconds / before:.2f} times the time before"
+        size = text.stat().st_size
+        entries = 2 * files + (files if shape.beside and shape.beside != "standing" else 0)
+        print(
+            f"    {files:,} files: {size / MB:.1f} MB, {seconds:.2f} s{ratio}; peak {peak / MB:.0f} MB,"
+            f" {peak / size:.2f} of the text, {peak / entries:,.0f} bytes an entry",
+            flush=True,
+        )
+        before = seconds
 
 
 def main():
     args = argparse.ArgumentParser(description=__doc__, formatter_class=argparse.RawDescriptionHelpFormatter)
-    args.add_argument("--large", action="store_true", help="few long files in place of many short ones")
-    args.add_argument("--standing", action="store_true", help="older files of the same names on the target")
+    args.add_argument("shapes", nargs="*", metavar="SHAPE", help=", ".join(SHAPES))
     options = args.parse_args()
-    if options.large:
-        cases = [("50 MB of text", [LONG_FILE] * 5), ("100 MB of text", [LONG_FILE] * 10)]
-    else:
-        cases = [("10,000 files", [1024] * 10_000), ("20,000 files", [1024] * 20_000)]
+    unknown = [name for name in options.shapes if name not in SHAPES]
+    if unknown:
+        args.error(f"no such shape: {unknown[0]}")
     if not PROGRAM.exists():
         sys.exit(f"{PROGRAM} is not built")
-    before = None
     with tempfile.TemporaryDirectory() as folder:
-        for label, sizes in cases:
-            text = Path(folder) / "site"
-            write_site(text, sizes, options.standing)
-            runs = [drill(text) for _ in range(RUNS)]
-            seconds = min(run[0] for run in runs)
-            peak = max(run[1] for run in runs)
-            ratio = "" if before is None else f", {seconds / before:.2f} times the time before"
-            size = text.stat().st_size
-            print(f"{label}: {size / MB:.1f} MB, {seconds:.2f} s{ratio}; peak {peak / MB:.0f} MB, {peak / size:.2f} of the text", flush=True)
-            before = seconds
+        for name in options.shapes or SHAPES:
+            print(f"{name}: {SHAPES[name].about}", flush=True)
+            measure(SHAPES[name], folder)
 
 
 if __name__ == "__main__":

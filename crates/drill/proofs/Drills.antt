@@ -1,28 +1,36 @@
 -- What a drill read, how its run ended, and what it wrote.
-use Rattle.std.proofs.Common.{◌≡◌, ◌⊎◌, ℕ, ◌+◌, ◌<◌, ◌≤◌, Bool, true, false, List, [], ◌∷◌, ◌++◌, length, drop, Some, Result, Ok, Err, inl, inr, refl, sym, ap, subst, ◌∙◌, arith, true≢false}
-use Rattle.std.specs.Prelude.{OnOk}
+use Rattle.std.proofs.Common.{◌≡◌, ◌⊎◌, ℕ, ◌+◌, ◌<◌, ◌≤◌, Bool, true, false, List, [], ◌∷◌, ◌++◌, length, drop, Option, Some, None, Result, Ok, Err, inl, inr, refl, sym, ap, subst, ◌∙◌, arith, true≢false}
+use Rattle.std.specs.Prelude.{IfErr, IfOk, OnOk, if◌then◌else◌}
 use Rattle.std.specs.Str.{IsUtf8, chars, encode_utf8_all}
 use Rattle.std.proofs.lemmas.Str.{encodes-chars}
 use Rattle.std.proofs.lemmas.List.{append-nil, drop_all, drop-append-le, drop-drop, length-append}
 use Rattle.std.proofs.lemmas.Bool.Decides.{leb_tells}
-use Rattle.rc_volume.specs.Faults.{Rose}
+use Rattle.rc_volume.specs.Faults.{RisesIf, RoseBy}
 use Rattle.rc_volume.specs.Site.{Told}
 use Rattle.rc_volume.specs.Streams.{AppendsFront}
+use Rattle.rc_mem.specs.declared.site.MemSite.{MemSite}
+use Rattle.rc_mem.specs.MemSite.{told_by}
 use Rattle.rc_run.specs.declared.outcome.Outcome.{Outcome}
 use Rattle.rc_run.specs.declared.outcome.Outcome.TheVariants as out
-use Rattle.rc_run.specs.Answers.{Answers, or_else, site_refusal, start_refusal}
-use Rattle.rc_run.specs.Goal.{IsMirrored, items_at, start_at}
-use Rattle.rc_run.specs.Outcome.{IfDone, IsBeforeReport, IsCaused, IsEarly, status_of}
-use Rattle.rc_report.specs.Report.{bits_of, report_of, totals_of}
-use Rattle.rc_run.specs.Words.{refusal_of}
+use Rattle.rc_run.specs.declared.outcome.Unbuilt.{Unbuilt}
+use Rattle.rc_run.specs.declared.outcome.Unbuilt.TheVariants as unbuilt
+use Rattle.rc_run.specs.declared.words.Request.{Request}
+use Rattle.rc_run.specs.Answers.{AreBitsOf, IsExpected, Leaves, Sends, is_empty, site_refusal, start_refusal}
+use Rattle.rc_run.specs.Goal.{IsMirrored, items_at}
+use Rattle.rc_run.specs.Outcome.{IfDone, at_copies, at_end, at_report, ending, finished, first_step, last_step, status_of}
+use Rattle.rc_report.specs.Report.{bits_of, totals_of}
+use Rattle.rc_run.specs.Words.{asked}
+use Rattle.rc_plan.specs.Plan.{start_in}
+use Rattle.rc_plan.specs.Roots.{are_built}
+use Rattle.rc_job.specs.declared.job.Job.{Job}
 use Rattle.drill.specs.declared.err.SiteTextErr.{SiteTextErr}
 use Rattle.drill.specs.declared.err.SiteTextErr.TheVariants as err
 use Rattle.drill.specs.declared.run.Stop.{Stop}
 use Rattle.drill.specs.declared.run.Stop.TheVariants.{Input, SiteText, NoMemory}
 use Rattle.drill.specs.declared.run.TheConstants.{GREATEST_TEXT}
 use Rattle.drill.specs.declared.site_file.SiteFile.{SiteFile}
-use Rattle.drill.specs.Drilling.{Drills, IsNoSite, IsSiteText, OfSome, Prints, Writes, WritesOne, drill_text, start_of, whole_line}
-use Rattle.drill.specs.Finishing.{Ends, refusal_line}
+use Rattle.drill.specs.Drilling.{Drills, IsCutIn, IsNoSite, IsSiteText, OfSome, Prints, Writes, WritesOne, drill_text, start_of, whole_line}
+use Rattle.drill.specs.Finishing.{Ends, refusal_line, stop_failed}
 
 -- Stops
 
@@ -55,6 +63,12 @@ is_input_err (Err NoMemory) = ⊥
 
 pub input_no_text : {T : Type 0} → ◌≡◌ {A = Result T Stop} (Err Input) (Err SiteText) → ⊥
 input_no_text e = subst is_input_err e tt
+
+-- only a stop at the input raised its count, and no stop let it fall
+pub stop_rose : (stop : Stop) (before now : ℕ) → RisesIf (stop_failed {T = SiteFile} (Err stop)) before now → stop ≡ Input → RoseBy 1 before now
+stop_rose Input before now h e = h.1
+stop_rose SiteText before now h e = absurd cc
+stop_rose NoMemory before now h e = absurd cc
 
 pub on_ok : {T E P : Type 0} (r : Result T E) → P → OnOk r P
 on_ok (Ok x) p = p
@@ -153,11 +167,10 @@ with_notes file notes = record { source = file.source; target = file.target; not
 pub start_is : (file : SiteFile) (start : Told) (notes : List ℕ) → start ≡ with_notes file notes → notes ≡ [] → start ≡ start_of file
 start_is file start notes e empty = e ∙ ap (with_notes file) empty
 
-never : Rose 0 0 → ⊥
-never (inl h) = omega (arith, h)
-never (inr h) = omega (arith, h)
+pub never : RoseBy 1 0 0 → ⊥
+never h = omega (arith, h)
 
-refused_end : (words : List (List ℕ)) (moment : ℕ) (start now : Told) (outcome : Outcome) (report : List ℕ) → start_refusal words start ≡ Some outcome → report ≡ [] → now ≡ start
+refused_end : (words : List (List ℕ)) (moment : ℕ) (start now : Told) (outcome : Outcome) (report : List ℕ) → start_refusal (asked words) start ≡ Some outcome → report ≡ [] → now ≡ start
     → Ends words moment start (drill_text moment (record { report = report; outcome = outcome; now = now })) (status_of outcome)
 refused_end words moment start now outcome report refused silent same = inl (record {
   end = record { report = report; outcome = outcome; now = now };
@@ -166,61 +179,133 @@ refused_end words moment start now outcome report refused silent same = inl (rec
   answer = refl;
 })
 
-words_refused : (words : List (List ℕ)) (start : Told) (e : Outcome) → refusal_of words ≡ Some e → start_refusal words start ≡ Some e
-words_refused words start e h = ap (λ r. or_else r (site_refusal start)) h
+-- a run is finished where it is done
+finished_done : (outcome : Outcome) → ending outcome ≡ finished → (bits : ℕ) × (at : ℕ) × (outcome ≡ out.Done bits at)
+finished_done (out.Done bits at) e = (bits, at, refl)
+finished_done (out.Usage file place kind) e = cc
+finished_done (out.NotYet what) e = cc
+finished_done (out.RootFault side) e = cc
+finished_done (out.ListFault side) e = cc
+finished_done out.RecordFault e = cc
+finished_done (out.SiteFault side) e = cc
+finished_done out.SinkFault e = cc
+finished_done out.NoMemory e = cc
 
--- what holds at the end of a run that is done
-pub done_so : (outcome : Outcome) (P Q : ℕ → ℕ → Type 0) → ((bits at : ℕ) → P bits at → Q bits at) → IfDone outcome P → IfDone outcome Q
-done_so (out.Done bits at) P Q f h = f bits at h
-done_so (out.Usage file place kind) P Q f h = tt
-done_so (out.NotYet what) P Q f h = tt
-done_so (out.RootFault side) P Q f h = tt
-done_so (out.ListFault side) P Q f h = tt
-done_so out.RecordFault P Q f h = tt
-done_so (out.SiteFault side) P Q f h = tt
-done_so out.SinkFault P Q f h = tt
-done_so out.NoMemory P Q f h = tt
+-- a site is refused before anything is copied or reported
+refused_early : (job : Job) (told : Told) (refusal : Outcome) → site_refusal job told ≡ Some refusal → last_step (ending refusal) < at_copies
+refused_early job told refusal e = by (is_empty told.notes) (are_built job told) e
+  where
+    same : (x y : Outcome) → Some x ≡ Some y → x ≡ y
+    same x y h = cc
+
+    early : (what : Unbuilt) → out.NotYet what ≡ refusal → last_step (ending (out.NotYet what)) < at_copies → last_step (ending refusal) < at_copies
+    early what h l = subst (λ (o : Outcome). last_step (ending o) < at_copies) h l
+
+    by : (b c : Bool) → (if b then (if c then None else Some (out.NotYet unbuilt.Trees)) else Some (out.NotYet unbuilt.Record)) ≡ Some refusal → last_step (ending refusal) < at_copies
+    by true true h = cc
+    by true false h = early unbuilt.Trees (same _ _ h) (omega arith)
+    by false c h = early unbuilt.Record (same _ _ h) (omega arith)
+
+-- what a run over a site in memory says, of which nothing fails
+pub record Runs (words : List (List ℕ)) (moment : ℕ) (start now : Told) (outcome : Outcome) (before report : List ℕ) : Type 0 where
+  pub untouched : IfErr (asked words) (λ refusal. (now ≡ start) × (report ≡ before))
+  pub expected : IsExpected (start_refusal (asked words) start) outcome
+  pub leaves : IfOk (asked words) (λ request. Leaves request.job moment start now outcome)
+  pub sends : IfOk (asked words) (λ request. Sends request.job moment start outcome before report)
+  pub reported : IfOk (asked words) (λ request. (report ≡ before) ⊎ IsMirrored (start_in request.job start) moment now)
+  pub bits : IfOk (asked words) (λ request. IfDone outcome (AreBitsOf request.job start))
+  pub begun : IfDone outcome (λ bits at. at ≡ moment)
+  pub silent : last_step (ending outcome) < at_report → report ≡ before
+
+cut_end : (words : List (List ℕ)) (moment : ℕ) (start now : Told) (outcome : Outcome) (report : List ℕ) → Runs words moment start now outcome [] report → outcome ≡ out.NoMemory
+    → Ends words moment start (drill_text moment (record { report = report; outcome = outcome; now = now })) (status_of outcome)
+cut_end words moment start now outcome report r same = inr (record {
+  end = record { report = report; outcome = outcome; now = now };
+  ends = record {
+    outcome = same;
+    refused = by_refusal (asked words) r.untouched;
+    accepted = by_request (asked words) r.leaves r.sends r.reported;
+  };
+  text = refl;
+  answer = refl;
+})
+  where
+    by_refusal : (a : Result Request Outcome) → IfErr a (λ refusal. (now ≡ start) × (report ≡ [])) → IfErr a (λ refusal. (report ≡ []) × (now ≡ start))
+    by_refusal (Ok request) h = tt
+    by_refusal (Err refusal) h = (h.1, h.0)
+
+    by_request : (a : Result Request Outcome) → IfOk a (λ request. Leaves request.job moment start now outcome) → IfOk a (λ request. Sends request.job moment start outcome [] report) → IfOk a (λ request. (report ≡ []) ⊎ IsMirrored (start_in request.job start) moment now)
+        → IfOk a (λ request. IsCutIn request.job moment start (record { report = report; outcome = outcome; now = now }))
+    by_request (Ok request) leaves sends reported = record {
+      leaves = subst (λ (o : Outcome). Leaves request.job moment start now o) same leaves;
+      report = sends.front;
+      reported = reported;
+    }
+    by_request (Err refusal) leaves sends reported = tt
+
+done_end : (words : List (List ℕ)) (moment : ℕ) (start now : Told) (outcome : Outcome) (report : List ℕ) (request : Request) → Runs words moment start now outcome [] report → asked words ≡ Ok request → site_refusal request.job start ≡ None → ending outcome ≡ finished
+    → Ends words moment start (drill_text moment (record { report = report; outcome = outcome; now = now })) (status_of outcome)
+done_end words moment start now outcome report request r asks accepted done =
+    let at = finished_done outcome done in
+    let bits : IfDone outcome (AreBitsOf request.job start) = subst (λ (a : Result Request Outcome). IfOk a (λ q. IfDone outcome (AreBitsOf q.job start))) asks r.bits in
+    let sends : Sends request.job moment start outcome [] report = subst (λ (a : Result Request Outcome). IfOk a (λ q. Sends q.job moment start outcome [] report)) asks r.sends in
+    let leaves : Leaves request.job moment start now outcome = subst (λ (a : Result Request Outcome). IfOk a (λ q. Leaves q.job moment start now outcome)) asks r.leaves in
+    let begun : at.1 ≡ moment = subst (λ (o : Outcome). IfDone o (λ b m. m ≡ moment)) at.2 r.begun in
+    let counted : AreBitsOf request.job start at.0 at.1 = subst (λ (o : Outcome). IfDone o (AreBitsOf request.job start)) at.2 bits in
+    inl (record {
+      end = record { report = report; outcome = outcome; now = now };
+      ends = inr (record {
+        request = request;
+        asks = asks;
+        accepted = accepted;
+        outcome =
+            at.2 ∙ ap (λ (m : ℕ). out.Done at.0 m) begun
+            ∙ ap (λ (b : ℕ). out.Done b moment) (counted ∙ ap (λ (m : ℕ). bits_of (totals_of (items_at request.job start m))) begun);
+        report = sends.whole done;
+        now = leaves.mirrored (let e : first_step (ending outcome) ≡ at_end = ap first_step done in omega (arith, e));
+      });
+      text = refl;
+      answer = refl;
+    })
 
 -- over a site and a report of which nothing fails
-pub ends : (words : List (List ℕ)) (moment : ℕ) (start now : Told) (outcome : Outcome) (old report : List ℕ) → old ≡ []
-    → IfDone outcome (λ bits at. at ≡ moment)
-    → IfDone outcome (λ bits at. IsMirrored (start_at words start) at now)
-    → IfDone outcome (λ bits at. bits ≡ bits_of (totals_of (items_at words start at)))
-    → IfDone outcome (λ bits at. report ≡ old ++ report_of (items_at words start at))
-    → IsCaused (λ part. Rose 0 0) (Rose 0 0) (Answers (true ≡ true) words start) outcome
-    → (IsEarly outcome → now ≡ start)
-    → (IsBeforeReport outcome → report ≡ old)
-    → AppendsFront old (report_of (items_at words start moment)) report
-    → now.source ≡ start.source
+ends : (words : List (List ℕ)) (moment : ℕ) (start now : Told) (outcome : Outcome) (report : List ℕ) → Runs words moment start now outcome [] report
     → Ends words moment start (drill_text moment (record { report = report; outcome = outcome; now = now })) (status_of outcome)
-ends words moment start now (out.Usage file place kind) old report empty begun mirrored bits reported cause unchanged silent front kept =
-    refused_end words moment start now (out.Usage file place kind) report (words_refused words start _ cause) (silent tt ∙ empty) (unchanged tt)
-ends words moment start now (out.NotYet what) old report empty begun mirrored bits reported (inl cause) unchanged silent front kept =
-    refused_end words moment start now (out.NotYet what) report (words_refused words start _ cause) (silent tt ∙ empty) (unchanged tt)
-ends words moment start now (out.NotYet what) old report empty begun mirrored bits reported (inr cause) unchanged silent front kept =
-    refused_end words moment start now (out.NotYet what) report (ap (λ r. or_else r (site_refusal start)) cause.0 ∙ cause.1 refl) (silent tt ∙ empty) (unchanged tt)
-ends words moment start now (out.Done b at) old report empty begun mirrored bits reported cause unchanged silent front kept = inl (record {
-  end = record { report = report; outcome = out.Done b moment; now = now };
-  ends = inr (record {
-    accepted = ap (λ r. or_else r (site_refusal start)) cause.0 ∙ cause.1 refl;
-    outcome = ap (λ n. out.Done n moment) (bits ∙ ap (λ (m : ℕ). bits_of (totals_of (items_at words start m))) begun);
-    report = reported ∙ ap (λ (t : List ℕ). t ++ report_of (items_at words start at)) empty ∙ ap (λ (m : ℕ). report_of (items_at words start m)) begun;
-    now = subst (λ (m : ℕ). IsMirrored (start_at words start) m now) begun mirrored;
-  });
-  text = refl;
-  answer = refl;
-})
-ends words moment start now (out.RootFault side) old report empty begun mirrored bits reported cause unchanged silent front kept = absurd (never cause.0)
-ends words moment start now (out.ListFault side) old report empty begun mirrored bits reported cause unchanged silent front kept = absurd (never cause.0)
-ends words moment start now out.RecordFault old report empty begun mirrored bits reported cause unchanged silent front kept = absurd (never cause.0)
-ends words moment start now (out.SiteFault side) old report empty begun mirrored bits reported cause unchanged silent front kept = absurd (never cause.0)
-ends words moment start now out.SinkFault old report empty begun mirrored bits reported cause unchanged silent front kept = absurd (never cause.0)
-ends words moment start now out.NoMemory old report empty begun mirrored bits reported cause unchanged silent front kept = inr (record {
-  end = record { report = report; outcome = out.NoMemory; now = now };
-  ends = record { outcome = refl; report = subst (λ (t : List ℕ). AppendsFront t (report_of (items_at words start moment)) report) empty front; source = kept };
-  text = refl;
-  answer = refl;
-})
+ends words moment start now outcome report r = by_asked (asked words) refl r.expected r.untouched r.leaves
+  where
+    by_asked : (a : Result Request Outcome) → asked words ≡ a → IsExpected (start_refusal a start) outcome → IfErr a (λ refusal. (now ≡ start) × (report ≡ [])) → IfOk a (λ request. Leaves request.job moment start now outcome)
+        → Ends words moment start (drill_text moment (record { report = report; outcome = outcome; now = now })) (status_of outcome)
+    by_asked (Err refusal) e (inl same) untouched leaves =
+        refused_end words moment start now outcome report (ap (λ (a : Result Request Outcome). start_refusal a start) e ∙ ap (λ (o : Outcome). Some o) (sym same)) untouched.1 untouched.0
+    by_asked (Err refusal) e (inr memory) untouched leaves = cut_end words moment start now outcome report r memory
+    by_asked (Ok request) e expected untouched leaves = by_site (site_refusal request.job start) refl expected
+      where
+        refused_so : (refusal : Outcome) → site_refusal request.job start ≡ Some refusal → outcome ≡ refusal
+            → Ends words moment start (drill_text moment (record { report = report; outcome = outcome; now = now })) (status_of outcome)
+        refused_so refusal found same =
+            let early : last_step (ending outcome) < at_copies = subst (λ (o : Outcome). last_step (ending o) < at_copies) (sym same) (refused_early request.job start refusal found) in
+            refused_end words moment start now outcome report (ap (λ (a : Result Request Outcome). start_refusal a start) e ∙ found ∙ ap (λ (o : Outcome). Some o) (sym same)) (r.silent (omega (arith, early))) (leaves.unchanged early)
+
+        by_site : (found : Option Outcome) → site_refusal request.job start ≡ found → IsExpected found outcome
+            → Ends words moment start (drill_text moment (record { report = report; outcome = outcome; now = now })) (status_of outcome)
+        by_site None found (inl done) = done_end words moment start now outcome report request r e found done
+        by_site None found (inr memory) = cut_end words moment start now outcome report r memory
+        by_site (Some refusal) found (inl same) = refused_so refusal found same
+        by_site (Some refusal) found (inr memory) = cut_end words moment start now outcome report r memory
+
+-- a run that began at a moment, over a site and with a report, whatever they were called
+pub ends_so : (words : List (List ℕ)) (moment last : ℕ) (file : SiteFile) (start now : Told) (outcome : Outcome) (before report : List ℕ) → last ≡ moment → start ≡ start_of file → before ≡ [] → Runs words last start now outcome before report
+    → Ends words moment (start_of file) (drill_text moment (record { report = report; outcome = outcome; now = now })) (status_of outcome)
+ends_so words moment last file start now outcome before report at is none r =
+    ends words moment (start_of file) now outcome report
+    (subst (λ (b : List ℕ). Runs words moment (start_of file) now outcome b report) none
+    (subst (λ (m : ℕ). Runs words m (start_of file) now outcome before report) at
+    (subst (λ (s : Told). Runs words last s now outcome before report) is r)))
+
+-- a site that is the one that was handed in tells the same
+pub told_same : (a : Result Request Outcome) (site end : MemSite) (before report : List ℕ) (more : Type 0) → IfErr a (λ refusal. (end ≡ site) × (report ≡ before) × more) → IfErr a (λ refusal. (told_by end ≡ told_by site) × (report ≡ before))
+told_same (Ok request) site end before report more h = tt
+told_same (Err refusal) site end before report more h = (ap told_by h.0, h.1)
 
 -- Drills
 

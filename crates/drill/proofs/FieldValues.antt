@@ -1,10 +1,7 @@
 -- What the readers of values answer, step by step.
-use Rattle.std.proofs.Common.{◌≡◌, ◌≢◌, ℕ, ◌-◌, ◌^◌, ◌<◌, ◌≤◌, Bool, true, false, not, ◌&&◌, cond, eqb, ltb, leb, List, [], ◌∷◌, ◌++◌, map, length, get_or, Some, None, Result, Ok, Err, refl, sym, ap, subst, ◌∙◌, arith}
-use Rattle.std.specs.Prelude.{chars, codes, T}
-use Rattle.std.specs.Ordering.{is_lt}
-use Rattle.std.specs.List.{list_all}
-use Rattle.std.specs.FinMap.{entries, entries_sorted, is_sorted}
-use Rattle.std.proofs.lemmas.List.{length-map, get_or-map}
+use Rattle.std.proofs.Common.{◌≡◌, ◌≢◌, ℕ, ◌^◌, ◌<◌, ◌≤◌, Bool, true, false, not, ◌&&◌, cond, eqb, ltb, leb, List, [], ◌∷◌, ◌++◌, length, get_or, Option, Some, None, Result, Ok, Err, refl, sym, ap, ◌∙◌, arith}
+use Rattle.std.specs.Prelude.{chars, codes}
+use Rattle.std.specs.FinMap.{empty, entries, entries_sorted, insert, len-empty, len-entries}
 use Rattle.std.specs.Str.{IsUtf8, bytes_eq, all_ascii_digits}
 use Rattle.std.specs.Str.Parse.{ParsesUnsigned, digits_value}
 use Rattle.std.specs.Result.{OkIff}
@@ -12,15 +9,13 @@ use Rattle.std.proofs.lemmas.Bool.{le-leb, leb-true, lt-ltb, ltb-true, or_parts,
 use Rattle.std.proofs.lemmas.Str.{is_utf8-from_IsUtf8}
 use Rattle.std.proofs.lemmas.Str.Parse.{IsNumeralModel, numerals_by_value, tells_all_ascii_digits, parse_plain}
 use Rattle.rc_tree.specs.Name.{name_fault}
-use Rattle.rc_tree.specs.Path.{key_of, key_cmp, last_name}
+use Rattle.rc_tree.specs.Path.{key_cmp, last_name}
 use Rattle.rc_tree.specs.Tree.{Node, Tree}
 use Rattle.rc_tree.proofs.Keys.{key_cmp-total}
-use Rattle.rc_mem.specs.declared.tree.TreeNode.{TreeNode}
-use Rattle.rc_mem.specs.Nodes.{placed}
 use Rattle.drill.proofs.Cuts.{starred_none}
-use Rattle.drill.proofs.Rising.{above_last}
+use Rattle.drill.proofs.Rising.{above_none, above_some, entries-insert_last, last_of-push}
 use Rattle.drill.specs.SiteText.{letters}
-use Rattle.drill.specs.Reading.{number_at, is_numeral, is_padded, name_at, letter_at, flags_at, attr_at, attr_with, content_at, written_at, is_above}
+use Rattle.drill.specs.Reading.{number_at, is_numeral, is_padded, name_at, letter_at, flags_at, attr_at, attr_with, content_at, written_at, is_above, is_behind, last_key, last_of}
 
 pub numerals : IsNumeralModel (λ ds. all_ascii_digits ds ≡ true) (digits_value 10)
 numerals = numerals_by_value (λ ds. all_ascii_digits ds ≡ true) tells_all_ascii_digits
@@ -99,13 +94,21 @@ path_named text name root path utf8 is named nothing joined =
     let one : path ≡ chars text ∷ [] = joined ∙ ap (λ (r : List (List ℕ)). r ++ name ∷ []) nothing ∙ ap (λ (n : List ℕ). n ∷ []) is in
     name_read text utf8 named ∙ sym (ap (λ (p : List (List ℕ)). Some (last_name p)) one)
 
--- a key is above all of a tree where it is above that of the last node
-pub is_above_last : (nodes : List TreeNode) (tree : Tree) (key : List (List ℕ)) (last : TreeNode) → map placed nodes ≡ entries tree → 0 < length nodes → last ≡ get_or nodes (length nodes - 1) last → is_above tree key ≡ is_lt (key_cmp (key_of last.path) key)
+-- a key is above all of a tree where it comes behind the last one
+pub is_above_behind : (tree : Tree) (last : Option (List (List ℕ))) (key : List (List ℕ)) → last_key tree ≡ last → is_above tree key ≡ is_behind last key
 unfolding is_above
-is_above_last nodes tree key last shown some is =
-    let sorted : T (is_sorted key_cmp (map placed nodes)) = subst (λ (es : List (List (List ℕ) × Node)). T (is_sorted key_cmp es)) (sym shown) (entries_sorted tree) in
-    let len : length (map placed nodes) ≡ length nodes = length-map nodes placed in
-    let at : get_or (map placed nodes) (length (map placed nodes) - 1) (placed last) ≡ placed last =
-    ap (λ (n : ℕ). get_or (map placed nodes) (n - 1) (placed last)) len ∙ get_or-map placed nodes (length nodes - 1) last (placed last) (omega arith) ∙ ap placed (sym is) in
-    ap (list_all (λ e. is_lt (key_cmp e.0 key))) (sym shown)
-    ∙ above_last key_cmp key_cmp-total key (map placed nodes) (placed last) sorted (omega (arith, len)) ∙ ap (λ (e : List (List ℕ) × Node). is_lt (key_cmp e.0 key)) at
+is_above_behind tree None key e = above_none key_cmp key_cmp-total key (entries tree) e
+is_above_behind tree (Some last) key e = above_some key_cmp key_cmp-total key (entries tree) last (entries_sorted tree) e
+
+-- a key that was added behind the last one is the last one
+pub last_key_added : (tree : Tree) (key : List (List ℕ)) (node : Node) → is_above tree key ≡ true → last_key (insert tree key node) ≡ Some key
+unfolding is_above
+last_key_added tree key node above =
+    ap last_of (entries-insert_last key_cmp key_cmp-total tree key node above) ∙ last_of-push key_cmp key_cmp-total (entries tree) (key, node)
+
+no_last : {K X : Type 0} (es : List (K × X)) → length es ≡ 0 → last_of es ≡ None
+no_last [] none = refl
+no_last (e ∷ es) none = absurd (omega (arith, none))
+
+pub last_key_empty : last_key empty ≡ None
+last_key_empty = no_last (entries {R = key_cmp} (empty {X = Node})) (sym (len-entries (empty {X = Node} {R = key_cmp})) ∙ len-empty key_cmp Node)

@@ -12,3 +12,4 @@ pub mod Rising
 pub mod Sends
 pub mod SiteLaws
 pub mod Spells
+pub mod Streams

@@ -1,5 +1,5 @@
 -- Entries whose keys rise: the last one is the greatest, and an entry above it goes to the end.
-use Rattle.std.proofs.Common.{◌≡◌, suc, ◌-◌, ◌<◌, Bool, true, false, ◌&&◌, List, [], ◌∷◌, ◌++◌, length, get_or, refl, ap, ◌∙◌, arith}
+use Rattle.std.proofs.Common.{◌≡◌, suc, ◌-◌, ◌<◌, Bool, true, false, ◌&&◌, List, [], ◌∷◌, ◌++◌, length, get_or, Some, None, refl, sym, ap, ◌∙◌, arith}
 use Rattle.std.specs.Prelude.{T}
 use Rattle.std.specs.declared.cmp.Ordering.{Ordering}
 use Rattle.std.specs.declared.cmp.Ordering.TheVariants.{Less, Equal, Greater}
@@ -8,6 +8,7 @@ use Rattle.std.specs.List.{All, list_all}
 use Rattle.std.specs.Cmp.{IsTotalOrder}
 use Rattle.std.specs.FinMap.{FinMap, is_sorted, put, entries, insert, entries-insert}
 use Rattle.std.specs.FinMap.Entries.{below_all}
+use Rattle.drill.specs.Reading.{last_of}
 use Rattle.std.proofs.lemmas.List.Elements.{All-cons, All-nil}
 
 first : (a b : Bool) → T (a && b) → T a
@@ -30,6 +31,12 @@ true_is false e = absurd cc
 is_true : (b : Bool) → T b → b ≡ true
 is_true true h = refl
 is_true false h = absurd h
+
+some_none : {A : Type 0} (x : A) → Some x ≡ None → ⊥
+some_none x e = cc
+
+same_some : {A : Type 0} (x y : A) → Some x ≡ Some y → x ≡ y
+same_some x y e = cc
 
 and_false : (a : Bool) → (a && false) ≡ false
 and_false true = refl
@@ -64,6 +71,29 @@ module _ {K X : Type 0} (R : K → K → Ordering) (o : IsTotalOrder R) where
       let rest = above_last q (f ∷ es) d (second (below_all R e.0 (f ∷ es)) (is_sorted R (f ∷ es)) sorted) (omega arith) in
       let under = below_last e.0 (f ∷ es) d (first (below_all R e.0 (f ∷ es)) (is_sorted R (f ∷ es)) sorted) (omega arith) in
       rw at (ap (λ (b : Bool). is_lt (R e.0 q) && b) rest ∙ both_less R o e.0 (get_or (f ∷ es) (length (f ∷ es) - 1) d).0 q under)
+
+  last_of-at : (es : List (K × X)) (d : K × X) → 0 < length es → last_of es ≡ Some (get_or es (length es - 1) d).0
+  last_of-at [] d some = absurd (omega arith)
+  last_of-at (e ∷ []) d some = refl
+  last_of-at (e ∷ f ∷ es) d some =
+      let at : length (e ∷ f ∷ es) - 1 ≡ suc (length (f ∷ es) - 1) = omega arith in
+      rw at (last_of-at (f ∷ es) d (omega arith))
+
+  pub last_of-push : (es : List (K × X)) (e : K × X) → last_of (es ++ e ∷ []) ≡ Some e.0
+  last_of-push [] e = refl
+  last_of-push (f ∷ []) e = refl
+  last_of-push (f ∷ g ∷ es) e = last_of-push (g ∷ es) e
+
+  -- a key is above all keys where there is none, or where it is above the last one
+  pub above_none : (q : K) (es : List (K × X)) → last_of es ≡ None → list_all (λ e. is_lt (R e.0 q)) es ≡ true
+  above_none q [] none = refl
+  above_none q (e ∷ es) none = absurd (some_none _ (sym (last_of-at (e ∷ es) e (omega arith)) ∙ none))
+
+  pub above_some : (q : K) (es : List (K × X)) (last : K) → T (is_sorted R es) → last_of es ≡ Some last → list_all (λ e. is_lt (R e.0 q)) es ≡ is_lt (R last q)
+  above_some q [] last sorted some = absurd (some_none last (sym some))
+  above_some q (e ∷ es) last sorted some =
+      above_last q (e ∷ es) e sorted (omega arith)
+      ∙ ap (λ (k : K). is_lt (R k q)) (same_some _ last (sym (last_of-at (e ∷ es) e (omega arith)) ∙ some))
 
   -- the test says so of each entry
   pub above_each : (q : K) (es : List (K × X)) → list_all (λ e. is_lt (R e.0 q)) es ≡ true → All (λ e. R e.0 q ≡ Less) es

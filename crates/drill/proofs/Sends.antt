@@ -7,8 +7,8 @@ use Rattle.std.proofs.lemmas.List.{append-nil, length-append, map-append, take-a
 use Rattle.std.proofs.lemmas.List.Concat.{flat_map-append, flat_map-cons}
 use Rattle.rc_tree.specs.Tree.{Node, Tree}
 use Rattle.rc_volume.specs.Streams.{AppendsFront}
-use Rattle.rc_mem.specs.declared.tree.TreeNode.{TreeNode}
-use Rattle.rc_mem.specs.Nodes.{node_of, placed}
+use Rattle.rc_mem.specs.declared.node.TreeNode.{TreeNode}
+use Rattle.rc_mem.specs.Nodes.{at_key, node_of}
 use Rattle.drill.specs.SiteText.{file_line, file_lines}
 
 pub on_err : {T E P : Type 0} (r : Result T E) → P → OnErr r P
@@ -50,9 +50,9 @@ lines_more nodes i d lt =
     ap node_lines (take_more nodes i d lt) ∙ lines-append (take i nodes) (get_or nodes i d ∷ [])
     ∙ ap (λ (t : List ℕ). node_lines (take i nodes) ++ t) (flat_map-cons file_line (node_of (get_or nodes i d)) [] ∙ append-nil (file_line (node_of (get_or nodes i d))))
 
-nodes_are : (nodes : List TreeNode) → map (λ e. e.1) (map placed nodes) ≡ map node_of nodes
+nodes_are : (nodes : List TreeNode) → map (λ e. e.1) (map at_key nodes) ≡ map node_of nodes
 nodes_are [] = refl
 nodes_are (n ∷ nodes) = ap (λ (t : List Node). node_of n ∷ t) (nodes_are nodes)
 
-pub node_lines_are : (nodes : List TreeNode) (tree : Tree) → map placed nodes ≡ entries tree → node_lines nodes ≡ file_lines tree
+pub node_lines_are : (nodes : List TreeNode) (tree : Tree) → map at_key nodes ≡ entries tree → node_lines nodes ≡ file_lines tree
 node_lines_are nodes tree shown = ap (flat_map file_line) (sym (nodes_are nodes) ∙ ap (map (λ e. e.1)) shown)

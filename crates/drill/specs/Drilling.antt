@@ -1,13 +1,17 @@
 -- What a drill prints of a site text, and what it answers.
-use Rattle.std.specs.Prelude.{◌≡◌, ◌⊎◌, ℕ, ◌≤◌, Bool, true, List, [], ◌∷◌, ◌++◌, length, codes, decimal, encode_utf8_all, Some, None}
+use Rattle.std.specs.Prelude.{◌≡◌, ◌⊎◌, ℕ, ◌≤◌, Bool, true, List, [], ◌∷◌, ◌++◌, length, codes, decimal, encode_utf8_all, Some, None, Ok, IfOk, IfErr}
+use Rattle.rc_job.specs.declared.job.Job.{Job}
 use Rattle.rc_tree.specs.declared.moment.TheConstants.{GREATEST_MOMENT}
 use Rattle.rc_volume.specs.Site.{Told}
 use Rattle.rc_volume.specs.Streams.{AppendsFront}
 use Rattle.rc_run.specs.declared.outcome.Outcome.{Outcome}
 use Rattle.rc_run.specs.declared.outcome.Outcome.TheVariants.{Done, NoMemory}
-use Rattle.rc_run.specs.Answers.{start_refusal}
-use Rattle.rc_run.specs.Goal.{IsMirrored, items_at, start_at}
+use Rattle.rc_run.specs.declared.words.Request.{Request}
+use Rattle.rc_run.specs.Answers.{Leaves, site_refusal, start_refusal}
+use Rattle.rc_run.specs.Goal.{IsMirrored, items_at}
 use Rattle.rc_run.specs.Outcome.{line_of, status_of}
+use Rattle.rc_run.specs.Words.{asked}
+use Rattle.rc_plan.specs.Plan.{start_in}
 use Rattle.rc_report.specs.Report.{bits_of, report_of, totals_of}
 use Rattle.drill.specs.declared.run.TheConstants.{GREATEST_TEXT}
 use Rattle.drill.specs.declared.site_file.SiteFile.{SiteFile}
@@ -56,26 +60,35 @@ start_of file = record { source = file.source; target = file.target; notes = [] 
 
 -- refused for its words or its site, with nothing reported and nothing changed
 pub record IsRefused (words : List (List ℕ)) (start : Told) (end : End) : Type 0 where
-  pub refused : start_refusal words start ≡ Some end.outcome
+  pub refused : start_refusal (asked words) start ≡ Some end.outcome
   pub report : end.report ≡ []
   pub now : end.now ≡ start
 
 -- done as the rules want it: the report and the bits are those of the decided keys, and the trees are the goals
 pub record IsCarriedOut (words : List (List ℕ)) (moment : ℕ) (start : Told) (end : End) : Type 0 where
-  pub accepted : start_refusal words start ≡ None
-  pub outcome : end.outcome ≡ Done (bits_of (totals_of (items_at words start moment))) moment
-  pub report : end.report ≡ report_of (items_at words start moment)
-  pub now : IsMirrored (start_at words start) moment end.now
+  pub request : Request
+  pub asks : asked words ≡ Ok request
+  pub accepted : site_refusal request.job start ≡ None
+  pub outcome : end.outcome ≡ Done (bits_of (totals_of (items_at request.job start moment))) moment
+  pub report : end.report ≡ report_of (items_at request.job start moment)
+  pub now : IsMirrored (start_in request.job start) moment end.now
 
 -- how a run of these words ends by the rules
 abbrev pub IsRun : List (List ℕ) → ℕ → Told → End → Type 0
 IsRun words moment start end = IsRefused words start end ⊎ IsCarriedOut words moment start end
 
--- ended for want of memory: a front of the report, and the source as it was
+-- what a run of a job leaves that memory stopped: each key of the target as it was, as it should be, or with its copy on
+-- its way; all else as it was; and nothing reported before both trees are the goals
+pub record IsCutIn (job : Job) (moment : ℕ) (start : Told) (end : End) : Type 0 where
+  pub leaves : Leaves job moment start end.now NoMemory
+  pub report : AppendsFront [] (report_of (items_at job start moment)) end.report
+  pub reported : (end.report ≡ []) ⊎ IsMirrored (start_in job start) moment end.now
+
+-- ended for want of memory; for words that are refused with nothing reported and nothing changed
 pub record IsCutShort (words : List (List ℕ)) (moment : ℕ) (start : Told) (end : End) : Type 0 where
   pub outcome : end.outcome ≡ NoMemory
-  pub report : AppendsFront [] (report_of (items_at words start moment)) end.report
-  pub source : end.now.source ≡ start.source
+  pub refused : IfErr (asked words) (λ refusal. (end.report ≡ []) × (end.now ≡ start))
+  pub accepted : IfOk (asked words) (λ request. IsCutIn request.job moment start end)
 
 -- what is printed and answered of a run that ended so
 pub record Shows (moment : ℕ) (ended : End → Type 0) (printed : List ℕ) (status : ℕ) : Type 0 where

@@ -1,5 +1,5 @@
 -- What the steps of a drill answer.
-use Rattle.std.specs.Prelude.{◌⊎◌, ℕ, List, codes}
+use Rattle.std.specs.Prelude.{◌⊎◌, ℕ, Bool, true, false, List, codes, Result, Ok, Err}
 use Rattle.rc_volume.specs.Site.{Told}
 use Rattle.rc_mem.specs.MemSite.{told_by}
 use Rattle.drill.specs.declared.run.Finished.{Finished}
@@ -21,3 +21,10 @@ abbrev pub refusal_line : Stop → List ℕ
 refusal_line Input = codes "ERROR: input\n"
 refusal_line SiteText = codes "ERROR: site text\n"
 refusal_line NoMemory = codes ""
+
+-- whether the input failed
+abbrev pub stop_failed : {T : Type 0} → Result T Stop → Bool
+stop_failed (Ok value) = false
+stop_failed (Err Input) = true
+stop_failed (Err SiteText) = false
+stop_failed (Err NoMemory) = false

@@ -184,6 +184,20 @@ key_of_file node = folded node.spelling ∷ []
 unfoldable pub is_above : Tree → List (List ℕ) → Bool
 is_above tree key = list_all (λ e. is_lt (key_cmp e.0 key)) (entries tree)
 
+-- the greatest key of a tree, where it has one
+abbrev pub last_of : {K X : Type 0} → List (K × X) → Option K
+last_of [] = None
+last_of (entry ∷ []) = Some entry.0
+last_of (entry ∷ next ∷ entries) = last_of (next ∷ entries)
+
+abbrev pub last_key : Tree → Option (List (List ℕ))
+last_key tree = last_of (entries tree)
+
+-- whether a key comes behind the greatest one
+abbrev pub is_behind : Option (List (List ℕ)) → List (List ℕ) → Bool
+is_behind None key = true
+is_behind (Some last) key = is_lt (key_cmp last key)
+
 unfoldable pub added_at : Tree → List ℕ → Option Tree
 added_at tree line = file_at line >>= λ node. if is_above tree (key_of_file node) then Some (insert tree (key_of_file node) node) else None
 

@@ -1,3 +1,5 @@
+//! Drills of whole texts, and over streams that fail, stop short or are interrupted.
+
 use crate::adapters::{StdInput, StdOutput};
 use crate::run::drill_run;
 use crate::tests::with_source;
@@ -95,6 +97,44 @@ fn adapts_readers_and_writers(rt: HostRuntime) -> Result<(), Fail> {
     assert_eq!(rt; drill_run(alloc, &words, &mut input, &mut out), 1);
     out.finish()?;
     assert_eq!(rt; str::from_utf8(&written)?, ROW_DONE);
+    Ok(())
+}
+
+// A writer that is interrupted before each write, and takes at most seven bytes.
+#[derive(Drop)]
+struct Halting {
+    written: Vec<u8>,
+    is_interrupted: bool,
+}
+
+impl io::Write for Halting {
+    fn write(&mut self, buf: &[u8]) -> io::Result<usize> {
+        self.is_interrupted = !self.is_interrupted;
+        if self.is_interrupted {
+            return Err(io::Error::from(io::ErrorKind::Interrupted));
+        }
+        let count = buf.len().min(7);
+        match self.written.extend_from_slice(&buf[..count]) {
+            Ok(()) => Ok(count),
+            Err(_) => Err(io::Error::from(io::ErrorKind::OutOfMemory)),
+        }
+    }
+
+    fn flush(&mut self) -> io::Result<()> {
+        Ok(())
+    }
+}
+
+#[test]
+fn writes_on_after_short_and_interrupted_writes(rt: HostRuntime) -> Result<(), Fail> {
+    let alloc = rt.alloc();
+    let mut halting = Halting {
+        written: Vec::new(alloc),
+        is_interrupted: false,
+    };
+    let mut out = StdOutput::new(&mut halting);
+    assert_eq!(rt; out.write(alloc, b"all of these bytes"), Ok(()));
+    assert_eq!(rt; str::from_utf8(&halting.written)?, "all of these bytes");
     Ok(())
 }
 

@@ -1,3 +1,5 @@
+//! Why no site was read from a text.
+
 ghost use Rattle.std.specs.Prelude.{◌≡◌};
 ghost use Rattle.drill.specs.declared.err.SiteTextErr.TheVariants.{NoMemory as OutOfMemory};
 ghost use Rattle.drill.specs.Reading.{name_refusal, path_refusal, hex_refusal};

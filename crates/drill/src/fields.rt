@@ -7,7 +7,7 @@ ghost use Rattle.drill.specs.Reading.{Gives, cut, field_at, attr_at, number_at, 
 
 use crate::err::SiteTextErr;
 use crate::values::{GREATEST_SIZE, attr_of, content_of, number_of, path_of, security_of};
-use rc_mem::TreeNode;
+use rc_mem::{SharedBytes, TreeNode};
 use rc_tree::{Attr, GREATEST_MOMENT, Kind, Moment, Path, Props, Security};
 use std::alloc::Global;
 
@@ -109,7 +109,7 @@ pub fn file_of(alloc: Global, line: &str) -> Result<TreeNode, SiteTextErr>
     Ok(TreeNode {
         path,
         kind: Kind::File,
-        bytes,
+        bytes: SharedBytes::new(alloc, bytes)?,
         props,
     })
 }

@@ -7,9 +7,8 @@ mod adapters;
 mod drill_tests;
 mod err;
 mod fields;
+mod host;
 mod reader;
-#[cfg(test)]
-mod row_tests;
 mod run;
 mod site_file;
 #[cfg(test)]
@@ -18,29 +17,38 @@ mod values;
 mod writer;
 
 use adapters::{StdInput, StdOutput};
-use run::drill_run;
+use host::{drill_streams, exit_status};
 use std::env;
 use std::io::{self, BufReader, BufWriter, ErrorKind};
 use std::process::ExitCode;
 
 fn main(rt: HostRuntime) -> ExitCode {
-    let status = match drill_streams(&rt) {
-        Ok(status) => status,
-        Err(e) if e.kind() == ErrorKind::OutOfMemory => 32,
-        Err(_) => 16,
+    let drilled = match words(&rt) {
+        Ok(words) => drill_host(&rt, &words),
+        Err(e) => Err(e),
     };
-    ExitCode::from(status)
+    ExitCode::from(exit_status(&drilled))
+}
+
+// The words behind the program's name. Of a word that is no UTF-8 a line is written to standard error.
+fn words(rt: &HostRuntime) -> io::Result<Vec<String>> {
+    match env::args(rt) {
+        Ok(mut words) => {
+            let _program = words.next();
+            Ok(words.collect(rt.alloc())?)
+        }
+        Err(e) if e.kind() == ErrorKind::InvalidData => {
+            let _ = eprintln!(rt; "ERROR: a word is no UTF-8");
+            Err(e)
+        }
+        Err(e) => Err(e),
+    }
 }
 
 // Drills standard input into standard output.
-fn drill_streams(rt: &HostRuntime) -> io::Result<u8> {
+fn drill_host(rt: &HostRuntime, words: &[String]) -> io::Result<u8> {
     let alloc = rt.alloc();
-    let mut words = env::args(rt)?;
-    let _program = words.next();
-    let words: Vec<String> = words.collect(alloc)?;
     let mut input = StdInput::new(BufReader::new(alloc, rt.stdin())?);
     let mut out = StdOutput::new(BufWriter::new(alloc, rt.stdout())?);
-    let status = drill_run(alloc, &words, &mut input, &mut out);
-    out.finish()?;
-    Ok(status)
+    Ok(drill_streams(alloc, words, &mut input, &mut out))
 }

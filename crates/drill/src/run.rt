@@ -1,12 +1,13 @@
 //! A drill: a site text in, a mirror over the site in memory, and the report, the status and the site at the end out.
 
-ghost use Rattle.std.specs.Prelude.{◌≡◌, ◌⊎◌, ◌+◌, ◌<◌, ◌≤◌, ◌++◌, ℕ, true, [], length, vec_len, map, drop, string_bytes, codes, IfOk, OnOk, OnErr, IsErrOf};
+ghost use Rattle.std.specs.Prelude.{◌≡◌, ◌⊎◌, ◌+◌, ◌<◌, ◌≤◌, ◌++◌, ℕ, true, false, [], length, vec_len, map, drop, string_bytes, codes, IfOk, OnOk, OnErr, IsErrOf};
 ghost use Rattle.rc_tree.specs.declared.moment.TheConstants.{GREATEST_MOMENT};
-ghost use Rattle.rc_volume.specs.Faults.{HasCause, Rose};
-ghost use Rattle.rc_volume.specs.Streams.{AppendsFront};
+ghost use Rattle.rc_volume.specs.Faults.{RisesIf, RoseBy};
+ghost use Rattle.rc_volume.specs.Streams.{AppendsFront, input_failed, sink_failed};
 ghost use Rattle.rc_run.specs.Outcome.{line_of, status_of};
+ghost use Rattle.rc_run.specs.Words.{texts};
 ghost use Rattle.drill.specs.Drilling.{Drills, IsNoSite, IsSiteText, OfSome, Writes, WritesOne, drill_text, start_of, status_lines, whole_line};
-ghost use Rattle.drill.specs.Finishing.{Ends, end_of, refusal_line};
+ghost use Rattle.drill.specs.Finishing.{Ends, end_of, refusal_line, stop_failed};
 
 use crate::err::SiteTextErr;
 use crate::reader::read_site;
@@ -42,21 +43,32 @@ struct Finished {
 /// Reads a site text, runs a mirror over it with these words, and writes the report, the line of a refusal or a fault,
 /// the status and the site text of the end. It answers the exit status: that of the run, 16 where the text is refused
 /// or can't be read, or something can't be written, and 32 where memory runs out.
-#[tactic(none)]
 pub fn drill_run<I: Input, K: Sink>(
     alloc: Global,
     args: &[String],
     input: &mut I,
     out: &mut K,
 ) -> u8
-    ensures drilled { I.tells ≡ true → K.tells ≡ true → Drills (Rose (I.faults input.old) (I.faults input.new)) (Rose (K.faults out.old) (K.faults out.new)) (map (λ w. string_bytes w) args.now) (I.rest input.old) (K.received out.old) (K.received out.new) result }
+    ensures drilled { I.tells ≡ true → K.tells ≡ true → Drills
+        (RoseBy 1 (I.faults input.old) (I.faults input.new))
+        (RoseBy 1 (K.faults out.old) (K.faults out.new))
+        (texts args.now) (I.rest input.old)
+        (K.received out.old) (K.received out.new) result }
     // On inputs and outputs that do not tell too: it is a drill of some text with some output.
-    ensures answered { OfSome I.tells (I.rest input.old) (λ text. OfSome K.tells (K.received out.new) (λ new. Drills (Rose (I.faults input.old) (I.faults input.new)) (Rose (K.faults out.old) (K.faults out.new)) (map (λ w. string_bytes w) args.now) text (K.received out.old) new result)) }
+    ensures answered { OfSome I.tells (I.rest input.old) (λ text.
+        OfSome K.tells (K.received out.new) (λ new. Drills
+        (RoseBy 1 (I.faults input.old) (I.faults input.new))
+        (RoseBy 1 (K.faults out.old) (K.faults out.new))
+        (texts args.now) text (K.received out.old) new result)) }
     // To its end, or past the greatest length by one byte.
-    ensures read { I.tells ≡ true → (Rose (I.faults input.old) (I.faults input.new) → ⊥) → (result ≡ 32 → ⊥) → I.rest input.new ≡ drop (GREATEST_TEXT + 1) (I.rest input.old) }
-    ensures no_further { I.tells ≡ true → (n : ℕ) × (n ≤ GREATEST_TEXT + 1) × (I.rest input.new ≡ drop n (I.rest input.old)) }
+    ensures read { I.tells ≡ true → (RoseBy 1 (I.faults input.old) (I.faults input.new) → ⊥) →
+        (result ≡ 32 → ⊥) → I.rest input.new ≡ drop (GREATEST_TEXT + 1) (I.rest input.old) }
+    ensures no_further { I.tells ≡ true → (n : ℕ) × (n ≤ GREATEST_TEXT + 1)
+        × (I.rest input.new ≡ drop n (I.rest input.old)) }
     ensures input_counts { I.faults input.old ≤ I.faults input.new }
     ensures output_counts { K.faults out.old ≤ K.faults out.new }
+    // Of every output: where it failed, that is answered.
+    ensures output_fault { K.faults out.old < K.faults out.new → result ≡ 16 }
 {
     match read_file(alloc, input) {
         Ok(file) => run_file(alloc, args, file, out),
@@ -65,14 +77,17 @@ pub fn drill_run<I: Input, K: Sink>(
 }
 
 // The site that the input's bytes spell.
-#[tactic(none)]
 fn read_file<I: Input>(alloc: Global, input: &mut I) -> Result<SiteFile, Stop>
-    ensures file { IfOk result (λ file. OfSome I.tells (I.rest input.old) (λ text. IsSiteText text file)) }
+    ensures file { IfOk result
+        (λ file. OfSome I.tells (I.rest input.old) (λ text. IsSiteText text file)) }
     ensures refused { IsErrOf result Stop.SiteText → OfSome I.tells (I.rest input.old) IsNoSite }
-    ensures read { I.tells ≡ true → OnOk result (I.rest input.new ≡ drop (GREATEST_TEXT + 1) (I.rest input.old)) }
-    ensures read_all { I.tells ≡ true → IsErrOf result Stop.SiteText → I.rest input.new ≡ drop (GREATEST_TEXT + 1) (I.rest input.old) }
-    ensures no_further { I.tells ≡ true → (n : ℕ) × (n ≤ GREATEST_TEXT + 1) × (I.rest input.new ≡ drop n (I.rest input.old)) }
-    ensures cause { HasCause (I.faults input.old) (I.faults input.new) Stop.Input result }
+    ensures read { I.tells ≡ true → OnOk result
+        (I.rest input.new ≡ drop (GREATEST_TEXT + 1) (I.rest input.old)) }
+    ensures read_all { I.tells ≡ true → IsErrOf result Stop.SiteText →
+        I.rest input.new ≡ drop (GREATEST_TEXT + 1) (I.rest input.old) }
+    ensures no_further { I.tells ≡ true → (n : ℕ) × (n ≤ GREATEST_TEXT + 1)
+        × (I.rest input.new ≡ drop n (I.rest input.old)) }
+    ensures cause { RisesIf (stop_failed result) (I.faults input.old) (I.faults input.new) }
 {
     match read_text(alloc, input) {
         Ok(text) => file_of(alloc, &text),
@@ -85,7 +100,7 @@ fn read_file<I: Input>(alloc: Global, input: &mut I) -> Result<SiteFile, Stop>
 fn file_of(alloc: Global, text: &[u8]) -> Result<SiteFile, Stop>
     ensures file { IfOk result (λ file. IsSiteText text.now file) }
     ensures refused { IsErrOf result Stop.SiteText → IsNoSite text.now }
-    ensures others { IsErrOf result Stop.Input → ⊥ }
+    ensures not_input { stop_failed result ≡ false }
 {
     if text.len() > GREATEST_TEXT {
         return Err(Stop::SiteText);
@@ -100,10 +115,13 @@ fn file_of(alloc: Global, text: &[u8]) -> Result<SiteFile, Stop>
 // The bytes of the input to its end, or one more than a site text has.
 fn read_text<I: Input>(alloc: Global, input: &mut I) -> Result<Vec<u8>, InputErr>
     ensures bound { IfOk result (λ text. vec_len text ≤ GREATEST_TEXT + 1) }
-    ensures taken { I.tells ≡ true → IfOk result (λ text. I.rest input.old ≡ text.items ++ I.rest input.new) }
-    ensures end { I.tells ≡ true → IfOk result (λ text. vec_len text ≤ GREATEST_TEXT → I.rest input.new ≡ []) }
-    ensures lost { I.tells ≡ true → OnErr result ((n : ℕ) × (n ≤ GREATEST_TEXT + 1) × (I.rest input.new ≡ drop n (I.rest input.old))) }
-    ensures cause { HasCause (I.faults input.old) (I.faults input.new) InputErr.Failed result }
+    ensures taken { I.tells ≡ true → IfOk result
+        (λ text. I.rest input.old ≡ text.items ++ I.rest input.new) }
+    ensures end { I.tells ≡ true → IfOk result
+        (λ text. vec_len text ≤ GREATEST_TEXT → I.rest input.new ≡ []) }
+    ensures lost { I.tells ≡ true → OnErr result ((n : ℕ) × (n ≤ GREATEST_TEXT + 1)
+        × (I.rest input.new ≡ drop n (I.rest input.old))) }
+    ensures cause { RisesIf (input_failed result) (I.faults input.old) (I.faults input.new) }
 {
     let mut text = Vec::new(alloc);
     let Ok(mut buf) = buffer(alloc) else {
@@ -134,10 +152,13 @@ fn read_piece<I: Input>(
     requires short { vec_len text.old ≤ GREATEST_TEXT }
     ensures longer { IfOk result (λ count. vec_len text.new ≡ vec_len text.old + count) }
     ensures bound { OnOk result (vec_len text.new ≤ GREATEST_TEXT + 1) }
-    ensures taken { I.tells ≡ true → OnOk result (text.old.items ++ I.rest input.old ≡ text.new.items ++ I.rest input.new) }
+    ensures taken { I.tells ≡ true → OnOk result
+        (text.old.items ++ I.rest input.old ≡ text.new.items ++ I.rest input.new) }
     ensures end { I.tells ≡ true → IfOk result (λ count. count ≡ 0 → I.rest input.new ≡ []) }
-    ensures lost { I.tells ≡ true → OnErr result ((n : ℕ) × (vec_len text.old + n ≤ GREATEST_TEXT + 1) × (I.rest input.new ≡ drop n (I.rest input.old))) }
-    ensures cause { HasCause (I.faults input.old) (I.faults input.new) InputErr.Failed result }
+    ensures lost { I.tells ≡ true → OnErr result ((n : ℕ)
+        × (vec_len text.old + n ≤ GREATEST_TEXT + 1)
+        × (I.rest input.new ≡ drop n (I.rest input.old))) }
+    ensures cause { RisesIf (input_failed result) (I.faults input.old) (I.faults input.new) }
 {
     let room = buf.len().min(GREATEST_TEXT + 1 - text.len());
     let count = input.read(alloc, &mut buf[..room])?;
@@ -148,11 +169,14 @@ fn read_piece<I: Input>(
 }
 
 // Writes why there is no site to run on.
-#[tactic(none)]
 fn refuse<K: Sink>(alloc: Global, stop: Stop, out: &mut K) -> u8
-    ensures written { OfSome K.tells (K.received out.new) (λ new. Writes (Rose (K.faults out.old) (K.faults out.new)) (K.received out.old) (refusal_line stop) 16 new result) }
-    ensures silent { stop ≡ Stop.NoMemory → (K.tells ≡ true → K.received out.new ≡ K.received out.old) × (result ≡ 32) }
+    ensures written { OfSome K.tells (K.received out.new) (λ new. Writes
+        (RoseBy 1 (K.faults out.old) (K.faults out.new))
+        (K.received out.old) (refusal_line stop) 16 new result) }
+    ensures silent { stop ≡ Stop.NoMemory →
+        (K.tells ≡ true → K.received out.new ≡ K.received out.old) × (result ≡ 32) }
     ensures counts { K.faults out.old ≤ K.faults out.new }
+    ensures fault { K.faults out.old < K.faults out.new → result ≡ 16 }
 {
     match stop {
         Stop::Input => write_line(alloc, "ERROR: input\n", out),
@@ -162,10 +186,12 @@ fn refuse<K: Sink>(alloc: Global, stop: Stop, out: &mut K) -> u8
 }
 
 // Writes a line, and answers 16, or 32 where memory runs out.
-#[tactic(none)]
 fn write_line<K: Sink>(alloc: Global, line: &str, out: &mut K) -> u8
-    ensures written { OfSome K.tells (K.received out.new) (λ new. Writes (Rose (K.faults out.old) (K.faults out.new)) (K.received out.old) line.now 16 new result) }
+    ensures written { OfSome K.tells (K.received out.new) (λ new. Writes
+        (RoseBy 1 (K.faults out.old) (K.faults out.new))
+        (K.received out.old) line.now 16 new result) }
     ensures counts { K.faults out.old ≤ K.faults out.new }
+    ensures fault { K.faults out.old < K.faults out.new → result ≡ 16 }
 {
     match out.write(alloc, line.as_bytes()) {
         Ok(()) => 16,
@@ -175,11 +201,14 @@ fn write_line<K: Sink>(alloc: Global, line: &str, out: &mut K) -> u8
 }
 
 // Mirrors the site of a file, and writes how that ended.
-#[tactic(none)]
 fn run_file<K: Sink>(alloc: Global, args: &[String], file: SiteFile, out: &mut K) -> u8
     requires { file.moment ≤ GREATEST_MOMENT }
-    ensures written { OfSome K.tells (K.received out.new) (λ new. WritesOne (Ends (map (λ w. string_bytes w) args.now) file.moment (start_of file)) (Rose (K.faults out.old) (K.faults out.new)) (K.received out.old) new result ⊎ ((new ≡ K.received out.old) × (result ≡ 32))) }
+    ensures written { OfSome K.tells (K.received out.new) (λ new. WritesOne
+        (Ends (texts args.now) file.moment (start_of file))
+        (RoseBy 1 (K.faults out.old) (K.faults out.new)) (K.received out.old) new result
+        ⊎ ((new ≡ K.received out.old) × (result ≡ 32))) }
     ensures counts { K.faults out.old ≤ K.faults out.new }
+    ensures fault { K.faults out.old < K.faults out.new → result ≡ 16 }
 {
     let moment = file.moment;
     match mirror_file(alloc, args, file) {
@@ -192,7 +221,7 @@ fn run_file<K: Sink>(alloc: Global, args: &[String], file: SiteFile, out: &mut K
 #[tactic(none)]
 fn mirror_file(alloc: Global, args: &[String], file: SiteFile) -> Result<Finished, NoMemory>
     requires { file.moment ≤ GREATEST_MOMENT }
-    ensures { IfOk result (λ finished. Ends (map (λ w. string_bytes w) args.now) file.moment (start_of file) (drill_text file.moment (end_of finished)) (status_of finished.ended.outcome)) }
+    ensures { IfOk result (λ finished. Ends (texts args.now) file.moment (start_of file) (drill_text file.moment (end_of finished)) (status_of finished.ended.outcome)) }
 {
     let mut report = MemSink::new(alloc);
     let mut jobs = MemJobs::new(alloc);
@@ -207,10 +236,13 @@ fn mirror_file(alloc: Global, args: &[String], file: SiteFile) -> Result<Finishe
 }
 
 // Writes how a run ended, and answers its status, 16 where writing failed, or 32 where memory ran out.
-#[tactic(none)]
 fn write_finished<K: Sink>(alloc: Global, out: &mut K, moment: u64, finished: &Finished) -> u8
-    ensures written { OfSome K.tells (K.received out.new) (λ new. Writes (Rose (K.faults out.old) (K.faults out.new)) (K.received out.old) (drill_text moment (end_of finished.now)) (status_of finished.now.ended.outcome) new result) }
+    ensures written { OfSome K.tells (K.received out.new) (λ new. Writes
+        (RoseBy 1 (K.faults out.old) (K.faults out.new)) (K.received out.old)
+        (drill_text moment (end_of finished.now)) (status_of finished.now.ended.outcome)
+        new result) }
     ensures counts { K.faults out.old ≤ K.faults out.new }
+    ensures fault { K.faults out.old < K.faults out.new → result ≡ 16 }
 {
     match write_end(alloc, out, moment, finished) {
         Ok(()) => status(&finished.ended.outcome),
@@ -226,9 +258,11 @@ fn write_end<K: Sink>(
     moment: u64,
     finished: &Finished,
 ) -> Result<(), SinkErr>
-    ensures written { K.tells ≡ true → OnOk result (K.received out.new ≡ K.received out.old ++ drill_text moment (end_of finished.now)) }
-    ensures front { K.tells ≡ true → OnErr result (AppendsFront (K.received out.old) (drill_text moment (end_of finished.now)) (K.received out.new)) }
-    ensures cause { HasCause (K.faults out.old) (K.faults out.new) SinkErr.Failed result }
+    ensures written { K.tells ≡ true → OnOk result
+        (K.received out.new ≡ K.received out.old ++ drill_text moment (end_of finished.now)) }
+    ensures front { K.tells ≡ true → OnErr result
+        (AppendsFront (K.received out.old) (drill_text moment (end_of finished.now)) (K.received out.new)) }
+    ensures cause { RisesIf (sink_failed result) (K.faults out.old) (K.faults out.new) }
 {
     let Finished { report, ended } = finished;
     out.write(alloc, report.bytes())?;
@@ -241,9 +275,11 @@ fn write_end<K: Sink>(
 
 // Writes the line of a refusal or a fault, where there is one, and that of the status.
 fn write_status<K: Sink>(alloc: Global, out: &mut K, outcome: &Outcome) -> Result<(), SinkErr>
-    ensures written { K.tells ≡ true → OnOk result (K.received out.new ≡ K.received out.old ++ status_lines outcome.now) }
-    ensures front { K.tells ≡ true → OnErr result (AppendsFront (K.received out.old) (status_lines outcome.now) (K.received out.new)) }
-    ensures cause { HasCause (K.faults out.old) (K.faults out.new) SinkErr.Failed result }
+    ensures written { K.tells ≡ true → OnOk result
+        (K.received out.new ≡ K.received out.old ++ status_lines outcome.now) }
+    ensures front { K.tells ≡ true → OnErr result
+        (AppendsFront (K.received out.old) (status_lines outcome.now) (K.received out.new)) }
+    ensures cause { RisesIf (sink_failed result) (K.faults out.old) (K.faults out.new) }
 {
     match status_lines(alloc, outcome) {
         Ok(lines) => out.write(alloc, lines.as_bytes()),

@@ -1,3 +1,5 @@
+//! What a site text spells.
+
 use rc_mem::Tree;
 
 /// What a site text says: a moment, in 100-nanosecond units since 1601, and the trees of the two sides.

@@ -1,3 +1,5 @@
+//! Site texts, read and written back.
+
 use crate::reader::read_site;
 use crate::writer::write_site;
 use rc_mem::MemSink;
@@ -30,8 +32,8 @@ pub fn with_source(rt: &HostRuntime, lines: &str) -> Result<String, Fail> {
 fn reads_the_example(rt: HostRuntime) -> Result<(), Fail> {
     let site = read_site(rt.alloc(), EXAMPLE.as_bytes())?;
     assert_eq!(rt; site.moment, 133485408000000000);
-    assert_eq!(rt; site.target.nodes().len(), 0);
-    assert_eq!(rt; site.source.nodes().len(), 1);
+    assert_eq!(rt; site.target.nodes().count(), 0);
+    assert_eq!(rt; site.source.nodes().count(), 1);
     for node in site.source.nodes() {
         assert_eq!(rt; node.path.names().len(), 1);
         for name in node.path.names() {
@@ -80,8 +82,8 @@ fn fills_repeated_bytes(rt: HostRuntime) -> Result<(), Fail> {
     let text = with_source(&rt, "F\ta\t-\t0\t0\t-\t-\t-\t1000000\t*61\n")?;
     let site = read_site(rt.alloc(), text.as_bytes())?;
     for node in site.source.nodes() {
-        assert_eq!(rt; node.bytes.len(), 1000000);
-        assert!(rt; node.bytes.iter().all(|byte| *byte == b'a'));
+        assert_eq!(rt; node.bytes.as_slice().len(), 1000000);
+        assert!(rt; node.bytes.as_slice().iter().all(|byte| *byte == b'a'));
     }
     Ok(())
 }

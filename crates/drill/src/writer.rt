@@ -5,13 +5,13 @@ ghost use Rattle.std.specs.List.{flat_map, join_with_byte};
 ghost use Rattle.std.specs.Str.{encode_utf8_all};
 ghost use Rattle.hex.specs.Hex.{encode_lower};
 ghost use Rattle.rc_tree.specs.Path.{last_name};
-ghost use Rattle.rc_volume.specs.Faults.{HasCause};
-ghost use Rattle.rc_volume.specs.Streams.{AppendsFront};
+ghost use Rattle.rc_volume.specs.Faults.{RisesIf};
+ghost use Rattle.rc_volume.specs.Streams.{AppendsFront, sink_failed};
 ghost use Rattle.rc_mem.specs.Nodes.{node_of};
 ghost use Rattle.drill.specs.SiteText.{letters, flags_of, marked, attr_text, hex_text, content_text, props_fields, file_line, file_lines, head_text, site_text};
 
 use crate::values::is_repeated;
-use rc_mem::{Tree, TreeNode};
+use rc_mem::{Nodes, Tree, TreeNode};
 use rc_tree::{Attr, Path, Props};
 use rc_volume::{Sink, SinkErr};
 use std::alloc::{AllocError, Global};
@@ -19,13 +19,15 @@ use std::alloc::{AllocError, Global};
 // Writes the letter where it is to be there.
 fn put_flag(line: &mut String, has: bool, letter: char) -> Result<(), AllocError>
     requires { letter < 128 }
-    ensures { OnOk result (string_bytes line.new ≡ string_bytes line.old ++ (if has then letter ∷ [] else [])) }
+    ensures { OnOk result
+        (string_bytes line.new ≡ string_bytes line.old ++ (if has then letter ∷ [] else [])) }
 {
     if has { line.push(letter) } else { Ok(()) }
 }
 
 fn put_flags(line: &mut String, attr: Attr) -> Result<(), AllocError>
-    ensures { OnOk result (string_bytes line.new ≡ string_bytes line.old ++ marked letters (flags_of attr)) }
+    ensures { OnOk result
+        (string_bytes line.new ≡ string_bytes line.old ++ marked letters (flags_of attr)) }
 {
     put_flag(line, attr.readonly, 'R')?;
     put_flag(line, attr.archive, 'A')?;
@@ -54,7 +56,8 @@ fn put_attr(line: &mut String, attr: Attr) -> Result<(), AllocError>
 
 // Writes bytes as lower-case hexadecimal.
 fn put_hex(alloc: Global, line: &mut String, bytes: &[u8]) -> Result<(), AllocError>
-    ensures { OnOk result (string_bytes line.new ≡ string_bytes line.old ++ encode_lower bytes.now) }
+    ensures { OnOk result
+        (string_bytes line.new ≡ string_bytes line.old ++ encode_lower bytes.now) }
 {
     line.push_str(hex::encode(alloc, bytes)?.as_str())
 }
@@ -72,7 +75,8 @@ fn put_security(alloc: Global, line: &mut String, bytes: &[u8]) -> Result<(), Al
 
 // Writes the content of a file, in its shortest form.
 fn put_content(alloc: Global, line: &mut String, bytes: &[u8]) -> Result<(), AllocError>
-    ensures { OnOk result (string_bytes line.new ≡ string_bytes line.old ++ content_text bytes.now) }
+    ensures { OnOk result
+        (string_bytes line.new ≡ string_bytes line.old ++ content_text bytes.now) }
 {
     if is_repeated(bytes) {
         line.push('*')?;
@@ -84,7 +88,8 @@ fn put_content(alloc: Global, line: &mut String, bytes: &[u8]) -> Result<(), All
 
 // Writes the last name of a path.
 fn put_name(line: &mut String, path: &Path) -> Result<(), AllocError>
-    ensures { OnOk result (string_bytes line.new ≡ string_bytes line.old ++ encode_utf8_all (last_name path.now)) }
+    ensures { OnOk result
+        (string_bytes line.new ≡ string_bytes line.old ++ encode_utf8_all (last_name path.now)) }
 {
     match path.names().last() {
         Some(name) => line.push_str(name.text()),
@@ -93,7 +98,8 @@ fn put_name(line: &mut String, path: &Path) -> Result<(), AllocError>
 }
 
 fn put_props(alloc: Global, line: &mut String, props: &Props) -> Result<(), AllocError>
-    ensures { OnOk result (string_bytes line.new ≡ string_bytes line.old ++ join_with_byte 9 (props_fields props.now)) }
+    ensures { OnOk result
+        (string_bytes line.new ≡ string_bytes line.old ++ join_with_byte 9 (props_fields props.now)) }
 {
     put_attr(line, props.attr)?;
     let created = props.created.units();
@@ -109,7 +115,8 @@ fn put_props(alloc: Global, line: &mut String, props: &Props) -> Result<(), Allo
 
 // Writes the line of a file.
 fn put_file(alloc: Global, line: &mut String, node: &TreeNode) -> Result<(), AllocError>
-    ensures { OnOk result (string_bytes line.new ≡ string_bytes line.old ++ file_line (node_of node.now)) }
+    ensures { OnOk result
+        (string_bytes line.new ≡ string_bytes line.old ++ file_line (node_of node.now)) }
 {
     line.push_str("F\t")?;
     put_name(line, &node.path)?;
@@ -137,9 +144,11 @@ fn send_head<K: Sink>(
     line: &mut String,
     moment: u64,
 ) -> Result<(), SinkErr>
-    ensures written { K.tells ≡ true → OnOk result (K.received out.new ≡ K.received out.old ++ head_text moment) }
-    ensures front { K.tells ≡ true → OnErr result (AppendsFront (K.received out.old) (head_text moment) (K.received out.new)) }
-    ensures cause { HasCause (K.faults out.old) (K.faults out.new) SinkErr.Failed result }
+    ensures written { K.tells ≡ true → OnOk result
+        (K.received out.new ≡ K.received out.old ++ head_text moment) }
+    ensures front { K.tells ≡ true → OnErr result
+        (AppendsFront (K.received out.old) (head_text moment) (K.received out.new)) }
+    ensures cause { RisesIf (sink_failed result) (K.faults out.old) (K.faults out.new) }
 {
     line.clear();
     if put_head(line, moment).is_err() {
@@ -155,9 +164,11 @@ fn send_file<K: Sink>(
     line: &mut String,
     node: &TreeNode,
 ) -> Result<(), SinkErr>
-    ensures written { K.tells ≡ true → OnOk result (K.received out.new ≡ K.received out.old ++ file_line (node_of node.now)) }
-    ensures front { K.tells ≡ true → OnErr result (AppendsFront (K.received out.old) (file_line (node_of node.now)) (K.received out.new)) }
-    ensures cause { HasCause (K.faults out.old) (K.faults out.new) SinkErr.Failed result }
+    ensures written { K.tells ≡ true → OnOk result
+        (K.received out.new ≡ K.received out.old ++ file_line (node_of node.now)) }
+    ensures front { K.tells ≡ true → OnErr result
+        (AppendsFront (K.received out.old) (file_line (node_of node.now)) (K.received out.new)) }
+    ensures cause { RisesIf (sink_failed result) (K.faults out.old) (K.faults out.new) }
 {
     line.clear();
     if put_file(alloc, line, node).is_err() {
@@ -171,11 +182,13 @@ fn send_files<K: Sink>(
     alloc: Global,
     out: &mut K,
     line: &mut String,
-    nodes: &[TreeNode],
+    nodes: Nodes<'_>,
 ) -> Result<(), SinkErr>
-    ensures written { K.tells ≡ true → OnOk result (K.received out.new ≡ K.received out.old ++ flat_map file_line (map node_of nodes.now)) }
-    ensures front { K.tells ≡ true → OnErr result (AppendsFront (K.received out.old) (flat_map file_line (map node_of nodes.now)) (K.received out.new)) }
-    ensures cause { HasCause (K.faults out.old) (K.faults out.new) SinkErr.Failed result }
+    ensures written { K.tells ≡ true → OnOk result
+        (K.received out.new ≡ K.received out.old ++ flat_map file_line (map node_of nodes.entry)) }
+    ensures front { K.tells ≡ true → OnErr result
+        (AppendsFront (K.received out.old) (flat_map file_line (map node_of nodes.entry)) (K.received out.new)) }
+    ensures cause { RisesIf (sink_failed result) (K.faults out.old) (K.faults out.new) }
 {
     for node in nodes {
         send_file(alloc, out, line, node)?;
@@ -191,9 +204,11 @@ fn send_side<K: Sink>(
     tree: &Tree,
     end: &str,
 ) -> Result<(), SinkErr>
-    ensures written { K.tells ≡ true → OnOk result (K.received out.new ≡ K.received out.old ++ (file_lines tree.now ++ end.now)) }
-    ensures front { K.tells ≡ true → OnErr result (AppendsFront (K.received out.old) (file_lines tree.now ++ end.now) (K.received out.new)) }
-    ensures cause { HasCause (K.faults out.old) (K.faults out.new) SinkErr.Failed result }
+    ensures written { K.tells ≡ true → OnOk result
+        (K.received out.new ≡ K.received out.old ++ (file_lines tree.now ++ end.now)) }
+    ensures front { K.tells ≡ true → OnErr result
+        (AppendsFront (K.received out.old) (file_lines tree.now ++ end.now) (K.received out.new)) }
+    ensures cause { RisesIf (sink_failed result) (K.faults out.old) (K.faults out.new) }
 {
     send_files(alloc, out, line, tree.nodes())?;
     out.write(alloc, end.as_bytes())?;
@@ -208,9 +223,11 @@ pub fn write_site<K: Sink>(
     source: &Tree,
     target: &Tree,
 ) -> Result<(), SinkErr>
-    ensures written { K.tells ≡ true → OnOk result (K.received out.new ≡ K.received out.old ++ site_text moment source.now target.now) }
-    ensures front { K.tells ≡ true → OnErr result (AppendsFront (K.received out.old) (site_text moment source.now target.now) (K.received out.new)) }
-    ensures cause { HasCause (K.faults out.old) (K.faults out.new) SinkErr.Failed result }
+    ensures written { K.tells ≡ true → OnOk result
+        (K.received out.new ≡ K.received out.old ++ site_text moment source.now target.now) }
+    ensures front { K.tells ≡ true → OnErr result
+        (AppendsFront (K.received out.old) (site_text moment source.now target.now) (K.received out.new)) }
+    ensures cause { RisesIf (sink_failed result) (K.faults out.old) (K.faults out.new) }
 {
     let mut line = String::new(alloc);
     send_head(alloc, out, &mut line, moment)?;

@@ -1,10 +1,10 @@
-pub mod JobLists
+pub mod Filed
 pub mod Listings
 pub mod Maps
-pub mod NodeLists
 pub mod Order
-pub mod Places
-pub mod Searches
-pub mod Sites
+pub mod Placed
+pub mod Readers
+pub mod Sound
+pub mod Steps
 pub mod Streams
 pub mod Trees

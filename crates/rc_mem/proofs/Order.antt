@@ -1,8 +1,8 @@
 -- The order of keys as lists: common fronts, and fronts of a given length.
 use Rattle.std.proofs.Common.{◌≡◌, ◌≢◌, ℕ, zero, suc, true, false, List, [], ◌∷◌, ◌++◌, length, take, refl, sym, ap, ◌∙◌}
-use Rattle.std.specs.Ordering.{is_gt, is_eq, is_le, ordering_then, ordering_reverse}
+use Rattle.std.specs.Ordering.{is_gt, is_eq, is_le, is_lt, ordering_then, ordering_reverse}
 use Rattle.std.specs.Cmp.{IsTotalOrder, tied_itself}
-use Rattle.std.specs.Cmp.Lexicographic.{slice_cmp}
+use Rattle.std.specs.Cmp.Lexicographic.{slice_cmp, lists_total}
 use Rattle.std.specs.declared.cmp.Ordering.{Ordering}
 use Rattle.std.specs.declared.cmp.Ordering.TheVariants.{Less, Equal, Greater}
 
@@ -42,11 +42,31 @@ not_eq-apart Less not = refl
 not_eq-apart Equal not = absurd (not refl)
 not_eq-apart Greater not = refl
 
+-- what passes the test for below is below
+pub less-from_test : (r : Ordering) → is_lt r ≡ true → r ≡ Less
+less-from_test Less h = refl
+less-from_test Equal h = cc
+less-from_test Greater h = cc
+
 -- neither above nor below
 pub level : (r : Ordering) → is_gt r ≡ false → is_gt (ordering_reverse r) ≡ false → r ≡ Equal
 level Less h g = cc
 level Equal h g = refl
 level Greater h g = cc
+
+-- a comparison the other way round
+pub turned : {K : Type 0} {R : K → K → Ordering} → IsTotalOrder R → (x y : K) (r : Ordering) → R x y ≡ r → R y x ≡ ordering_reverse r
+turned o x y r e = o.antisymm y x ∙ ap ordering_reverse e
+
+-- what is not above is not above
+pub not_greater : (r : Ordering) → is_gt r ≡ false → r ≡ Greater → ⊥
+not_greater r h e = gt-from_greater r e h
+
+-- neither above nor below
+pub level_if : (r : Ordering) → is_gt r ≡ false → (r ≢ Less) → r ≡ Equal
+level_if Less h not = absurd (not refl)
+level_if Equal h not = refl
+level_if Greater h not = cc
 
 module _ {K : Type 0} {R : K → K → Ordering} (o : IsTotalOrder R) where
   -- a common front tells nothing
@@ -85,6 +105,14 @@ module _ {K : Type 0} {R : K → K → Ordering} (o : IsTotalOrder R) where
         | Equal ↦ λ h. take-rises n xs ys h
         | Greater ↦ λ h. cc
       ] less
+
+  -- the same where the lists may tie
+  pub take-keeps : ((xs ys : List K) → slice_cmp R xs ys ≡ Equal → xs ≡ ys) → (n : ℕ) (xs ys : List K) → is_gt (slice_cmp R xs ys) ≡ false → is_gt (slice_cmp R (take n xs) (take n ys)) ≡ false
+  take-keeps exact n xs ys h = elim (slice_cmp R xs ys) as (λ r. slice_cmp R xs ys ≡ r → is_gt r ≡ false → is_gt (slice_cmp R (take n xs) (take n ys)) ≡ false) [
+    | Less ↦ λ e _. take-rises n xs ys e
+    | Equal ↦ λ e _. ap (λ (zs : List K). is_gt (slice_cmp R (take n zs) (take n ys))) (exact xs ys e) ∙ ap is_gt (tied_itself (lists_total o) (take n ys))
+    | Greater ↦ λ e not. cc
+  ] refl h
 
   -- a list whose front is this one is not below it
   pub cmp-front : (front xs : List K) → take (length front) xs ≡ front → slice_cmp R xs front ≢ Less

@@ -12,6 +12,7 @@ use Rattle.rc_tree.specs.Name.{folded, name_fault}
 use Rattle.rc_tree.specs.Path.{key_of, last_name, parent_of, key_cmp}
 use Rattle.rc_tree.specs.Tree.{Node, Tree, FitsAt, IsDirectory, IsTree}
 use Rattle.rc_tree.specs.declared.attr.Kind.TheVariants.{Dir}
+use Rattle.rc_volume.specs.Site.{IsRemovable}
 use Rattle.rc_mem.proofs.Order.{not_eq-apart}
 use Rattle.rc_tree.proofs.Keys.{key_cmp-total, key_cmp-IsAntisymmetric}
 
@@ -73,9 +74,23 @@ pub found : {X : Type 0} (o : Option X) (P : X → Type 0) → (o ≡ None → �
 found None P not h = absurd (not refl)
 found (Some x) P not h = (x, refl, h)
 
+-- the same of what holds of a node that is there
+pub some_and : {X : Type 0} (o : Option X) (P : X → Type 0) → IsSomeAnd o P → (x : X) × (o ≡ Some x) × P x
+some_and None P h = absurd h
+some_and (Some x) P h = (x, refl, h)
+
 -- keys that do not tie are two
 differ : (k key : List (List ℕ)) (r : Ordering) → key_cmp k key ≡ r → (Equal ≡ r → ⊥) → k ≢ key
 differ k key r e not same = not (sym (subst (λ x. key_cmp k x ≡ Equal) same (tied_itself key_cmp-total k)) ∙ e)
+
+-- two keys are one or not
+pub differ_or : {P : Type 0} (k key : List (List ℕ)) → (k ≡ key → P) → ((k ≢ key) → P) → P
+differ_or {P} k key same apart =
+    elim (key_cmp k key) as (λ r. key_cmp k key ≡ r → P) [
+      | Less ↦ λ e. apart (differ k key Less e (λ h. cc))
+      | Equal ↦ λ e. same (key_cmp-IsAntisymmetric k key e)
+      | Greater ↦ λ e. apart (differ k key Greater e (λ h. cc))
+    ] refl
 
 module _ (tree : Tree) (key : List (List ℕ)) (node : Node) (kinds : (old : Node) → get tree key ≡ Some old → old.kind ≡ Dir → node.kind ≡ Dir) where
   -- at another key
@@ -172,3 +187,63 @@ IsTree-added tree (n ∷ ns) node is parent none spelling depth named empty =
     let long : length (key_of (n ∷ ns)) ≤ 64 = rw length-map depth in
     let fit : FitsAt tree front last node = record { spelled = ap folded spelling; named = ap name_fault spelling ∙ named (omega arith); within = parent; depth = subst (λ k. length k ≤ 64) key long; no_bytes = empty } in
     subst (λ k. IsTree (insert tree k node)) (sym key) (IsTree-insert tree front last node is fit (λ old was dir. (let no : Some old ≡ None = sym was ∙ ap (get tree) (sym key) ∙ none in cc)))
+
+-- what stands in a directory's way
+
+-- a directory that is found has its kind
+kind-dir : (tree : Tree) (dir : List (List ℕ)) (node : Node) → IsDirectory tree dir → get tree dir ≡ Some node → IsTree tree → node.kind ≡ Dir
+kind-dir tree [] node dir at is = (let no : None ≡ Some node = sym is.0 ∙ at in cc)
+kind-dir tree (n ∷ ns) node dir at is = subst (λ o. IfSome o (λ x. x.kind ≡ Dir)) at dir.0
+
+-- what is never found is absent
+pub none_if : {X : Type 0} (o : Option X) → ((o ≡ None → ⊥) → ⊥) → o ≡ None
+none_if None h = refl
+none_if (Some x) h = absurd (h (λ e. cc))
+
+-- what is removable stands, and has nothing in it
+pub removable-stands : (tree : Tree) (key : List (List ℕ)) → IsRemovable tree key → (node : Node) × (get tree key ≡ Some node) × (node.kind ≡ Dir → (name : List ℕ) → get tree (key ++ name ∷ []) ≡ None)
+removable-stands tree key h = some_and (get tree key) (λ node. node.kind ≡ Dir → (name : List ℕ) → get tree (key ++ name ∷ []) ≡ None) h
+
+pub no_child : (tree : Tree) (key : List (List ℕ)) → IsTree tree → IsRemovable tree key → (name : List ℕ) → get tree (key ++ name ∷ []) ≡ None
+no_child tree key is h name = none_if (get tree (key ++ name ∷ [])) (λ stands.
+    (let node = removable-stands tree key h in
+    let child = found (get tree (key ++ name ∷ [])) (FitsAt tree key name) stands (is.1 key name) in
+    stands (node.2 (kind-dir tree key node.0 child.2.within node.1 is) name)))
+
+module _ (old new : Tree) (key : List (List ℕ)) (is : IsTree old) (free : IsRemovable old key) (gone : get new key ≡ None) (others : (other : List (List ℕ)) → other ≢ key → get new other ≡ get old other) where
+  -- the directory of what stands is not the one that went
+  dir-kept : (dir : List (List ℕ)) (name : List ℕ) → (get old (dir ++ name ∷ []) ≡ None → ⊥) → IsDirectory old dir → IsDirectory new dir
+  dir-kept [] name stands dir = tt
+  dir-kept (n ∷ ns) name stands dir =
+      let apart : n ∷ ns ≢ key = λ e. stands (ap (λ k. get old (k ++ name ∷ [])) e ∙ no_child old key is free name) in
+      let same = others (n ∷ ns) apart in
+      (subst (λ o. IfSome o (λ x. x.kind ≡ Dir)) (sym same) dir.0, λ none. dir.1 (sym same ∙ none))
+
+  left : (p : List (List ℕ)) (m : List ℕ) (o : Option Node) → get old (p ++ m ∷ []) ≡ o → IfSome o (FitsAt old p m) → IfSome o (FitsAt new p m)
+  left p m None at h = tt
+  left p m (Some x) at h = record { spelled = h.spelled; named = h.named; within = dir-kept p m (λ none. (let no : Some x ≡ None = sym at ∙ none in cc)) h.within; depth = h.depth; no_bytes = h.no_bytes }
+
+  fit-left : (p : List (List ℕ)) (m : List ℕ) → IfSome (get new (p ++ m ∷ [])) (FitsAt new p m)
+  fit-left p m =
+      elim (key_cmp (p ++ m ∷ []) key) as (λ r. key_cmp (p ++ m ∷ []) key ≡ r → IfSome (get new (p ++ m ∷ [])) (FitsAt new p m)) [
+        | Less ↦ λ e. other p m (differ (p ++ m ∷ []) key Less e (λ h. cc))
+        | Equal ↦ λ e. subst (λ o. IfSome o (FitsAt new p m)) (sym (ap (get new) (key_cmp-IsAntisymmetric (p ++ m ∷ []) key e) ∙ gone)) tt
+        | Greater ↦ λ e. other p m (differ (p ++ m ∷ []) key Greater e (λ h. cc))
+      ] refl
+    where
+      other : (p : List (List ℕ)) (m : List ℕ) → (p ++ m ∷ [] ≢ key) → IfSome (get new (p ++ m ∷ [])) (FitsAt new p m)
+      other p m apart = subst (λ o. IfSome o (FitsAt new p m)) (sym (others (p ++ m ∷ []) apart)) (left p m (get old (p ++ m ∷ [])) refl (is.1 p m))
+
+  -- what is left is a tree
+  pub IsTree-removed : IsTree new
+  IsTree-removed =
+      let node = removable-stands old key free in
+      let root : [] ≢ key = λ e. (let no : None ≡ Some node.0 = sym is.0 ∙ ap (get old) e ∙ node.1 in cc) in
+      (others [] root ∙ is.0, fit-left)
+
+-- a directory of a tree has no bytes
+pub no_bytes-in : (tree : Tree) (key : List (List ℕ)) (node : Node) → IsTree tree → get tree key ≡ Some node → node.kind ≡ Dir → node.bytes ≡ []
+no_bytes-in tree [] node is at = (let no : None ≡ Some node = sym is.0 ∙ at in cc)
+no_bytes-in tree (n ∷ ns) node is at =
+    let ends = snoc n ns in
+    (node_fits tree (take (length ns) (n ∷ ns)) ends.0 node is (ap (get tree) (sym ends.1) ∙ at)).no_bytes

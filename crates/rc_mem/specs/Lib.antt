@@ -1,5 +1,7 @@
+pub mod Held
 pub mod Listing
 pub mod MemJobs
 pub mod MemSite
 pub mod Nodes
-pub mod Places
+pub mod Reading
+pub mod WideSite

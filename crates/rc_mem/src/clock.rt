@@ -1,48 +1,64 @@
+//! A clock that stands.
+
 ghost use Rattle.std.specs.Prelude.{◌≡◌, ◌≤◌, Bool, true, ℕ};
 ghost use Rattle.rc_tree.specs.declared.moment.TheConstants.{GREATEST_MOMENT};
 
 use rc_tree::Moment;
 use rc_volume::Clock;
-use std::marker::Model;
 
-/// A clock that always answers one moment, and whose pause does nothing. Contracts see it as that moment.
-#[derive(Clone, Copy, Debug)]
+/// A clock that always answers one moment, and whose pause does nothing but count.
+#[derive(Debug, Drop)]
 pub struct FixedClock {
     moment: Moment,
-}
-
-impl Model for FixedClock {
-    ghost use Rattle.std.specs.Prelude.{ℕ};
-
-    ghost Value = { ℕ };
-
-    ghost view = { λ c. c.moment };
-
-    ghost inverse = { λ n. record { moment = n } };
+    reads: u64,
+    pauses: u64,
 }
 
 impl FixedClock {
     /// A clock that stands at `moment`, in 100-nanosecond units since 1601.
     pub fn new(moment: u64) -> FixedClock
         requires { moment ≤ GREATEST_MOMENT }
-        ensures { result ≡ moment }
+        ensures { result ≡ record { moment = moment; reads = 0; pauses = 0 } }
     {
         FixedClock {
             moment: Moment::new(moment),
+            reads: 0,
+            pauses: 0,
         }
+    }
+
+    /// How often it was read.
+    pub fn reads(&self) -> u64
+        ensures { result ≡ self.now.reads }
+    {
+        self.reads
+    }
+
+    /// How often it paused.
+    pub fn pauses(&self) -> u64
+        ensures { result ≡ self.now.pauses }
+    {
+        self.pauses
     }
 }
 
 impl Clock for FixedClock {
     ghost tells = { true };
 
-    ghost always = { λ c. c };
+    ghost always = { λ c. c.moment };
 
-    ghost last = { λ c. c };
+    ghost last = { λ c. c.moment };
+
+    ghost reads = { λ c. c.reads };
+
+    ghost pauses = { λ c. c.pauses };
 
     fn moment(&mut self) -> u64 {
+        self.reads = self.reads.saturating_add(1);
         self.moment.units()
     }
 
-    fn pause(&self, _seconds: u32) {}
+    fn pause(&mut self, _seconds: u32) {
+        self.pauses = self.pauses.saturating_add(1);
+    }
 }

@@ -1,3 +1,5 @@
+//! An input in memory.
+
 ghost use Rattle.std.specs.Prelude.{◌≡◌, Bool, true, List, ℕ};
 
 use rc_volume::{Input, InputErr};

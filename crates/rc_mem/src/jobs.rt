@@ -1,14 +1,16 @@
-ghost use Rattle.std.specs.Prelude.{◌≡◌, ◌≤◌, Bool, true, List, ℕ, map, vec_len, IsTrue, IfOk, IfErr, OnOk, OnErr};
-ghost use Rattle.std.specs.FinMap.{entries, empty, is_sorted};
-ghost use Rattle.std.specs.List.{insert as inserted};
+//! Job files in memory.
+
+ghost use Rattle.std.specs.Prelude.{◌≡◌, Bool, true, List, ℕ, map, IfOk, IfErr};
+ghost use Rattle.std.specs.FinMap.{entries, empty};
 ghost use Rattle.rc_tree.specs.Name.{folded};
 ghost use Rattle.rc_tree.specs.Path.{name_cmp};
-ghost use Rattle.rc_mem.specs.Places.{place};
-ghost use Rattle.rc_mem.specs.MemJobs.{filed};
+ghost use Rattle.rc_mem.specs.MemJobs.{AreFiled, filed, jobs_held};
 
-use rc_tree::Text;
+use rc_tree::{NoMemory, Text};
 use rc_volume::{JobStore, StoreErr};
 use std::alloc::Global;
+use std::collections::BTreeMap;
+use std::collections::btree_map::Values;
 use std::marker::Model;
 
 /// A job file: its name as it was first written, and its bytes.
@@ -18,15 +20,15 @@ pub struct JobBytes {
     pub bytes: Vec<u8>,
 }
 
-/// Job files in memory, in the order of their folded names. Contracts see the map from folded names to bytes.
+/// Job files in memory, by their folded names. Contracts see the map from folded names to bytes.
 #[derive(Debug, Drop)]
 pub struct MemJobs {
-    files: Vec<JobBytes>,
+    files: BTreeMap<Text, JobBytes>,
 }
 
 impl Model for MemJobs {
-    ghost use Rattle.std.specs.Prelude.{IsTrue, List, ℕ, map};
-    ghost use Rattle.std.specs.FinMap.{FinMap, from_sorted, is_sorted, code};
+    ghost use Rattle.std.specs.Prelude.{List, ℕ};
+    ghost use Rattle.std.specs.FinMap.{FinMap, code};
     ghost use Rattle.std.specs.Coded.{coded_list, coded_ℕ};
     ghost use Rattle.rc_tree.specs.Path.{name_cmp};
 
@@ -34,11 +36,11 @@ impl Model for MemJobs {
 
     ghost coded = { code (coded_list coded_ℕ) (coded_list coded_ℕ) };
 
-    ghost use Rattle.rc_mem.specs.MemJobs.{filed};
+    ghost use Rattle.rc_mem.specs.MemJobs.{AreFiled, jobs_held};
 
-    ghost view = { λ j. from_sorted (map filed j.files.items) };
+    ghost view = { λ j. jobs_held j.files };
 
-    ghost invariant = { λ j. IsTrue (is_sorted name_cmp (map filed j.files.items)) };
+    ghost invariant = { λ j. AreFiled j.files };
 }
 
 impl MemJobs {
@@ -47,15 +49,15 @@ impl MemJobs {
         ensures { result ≡ empty }
     {
         MemJobs {
-            files: Vec::new(alloc),
+            files: BTreeMap::new(alloc),
         }
     }
 
     /// The files, in rising order of their folded names.
-    pub fn files(&self) -> &[JobBytes]
-        ensures { map filed result.now ≡ entries self.now }
+    pub fn files(&self) -> Values<'_, Text, JobBytes>
+        ensures { map filed result ≡ entries self.now }
     {
-        self.files.as_slice()
+        self.files.values()
     }
 }
 
@@ -67,28 +69,32 @@ impl JobStore for MemJobs {
     ghost faults = { λ _. 0 };
 
     fn read(&mut self, alloc: Global, name: &Text) -> Result<Option<Vec<u8>>, StoreErr> {
-        match place_of(self.files.as_slice(), name) {
-            Ok(at) => Ok(Some(copy_bytes(alloc, self.files[at].bytes.as_slice())?)),
-            Err(_) => Ok(None),
+        let key = folded_name(alloc, name)?;
+        match self.files.get(&key) {
+            Some(job) => Ok(Some(copy_bytes(alloc, job.bytes.as_slice())?)),
+            None => Ok(None),
         }
     }
 
     fn write(&mut self, alloc: Global, name: &Text, bytes: &[u8]) -> Result<(), StoreErr> {
+        let key = folded_name(alloc, name)?;
         let bytes = copy_bytes(alloc, bytes)?;
-        match place_of(self.files.as_slice(), name) {
-            Ok(at) => self.files[at].bytes = bytes,
-            Err(at) => insert(alloc, &mut self.files, at, name, bytes)?,
+        let name = first_name(alloc, &self.files, &key, name)?;
+        match self.files.insert(key, JobBytes { name, bytes }) {
+            Ok(_) => Ok(()),
+            Err(_) => Err(StoreErr::NoMemory),
         }
-        Ok(())
     }
 }
 
-// Where the file of this name stands, or where it has to go.
-fn place_of(files: &[JobBytes], name: &Text) -> Result<usize, usize>
-    requires { IsTrue (is_sorted name_cmp (map filed files.now)) }
-    ensures { result ≡ place name_cmp (folded name.now) (map filed files.now) }
+fn folded_name(alloc: Global, name: &Text) -> Result<Text, StoreErr>
+    ensures folded { IfOk result (λ key. key ≡ folded name.now) }
+    ensures refused { IfErr result (λ e. e ≡ StoreErr.NoMemory) }
 {
-    files.binary_search_by(|job| job.name.cmp_folded(name))
+    match Text::folded(alloc, name.text()) {
+        Ok(key) => Ok(key),
+        Err(NoMemory) => Err(StoreErr::NoMemory),
+    }
 }
 
 fn copy_bytes(alloc: Global, bytes: &[u8]) -> Result<Vec<u8>, StoreErr>
@@ -101,24 +107,24 @@ fn copy_bytes(alloc: Global, bytes: &[u8]) -> Result<Vec<u8>, StoreErr>
     }
 }
 
-// Puts a new file at its place. After an error the files are as they were.
-fn insert(
+// The name under which the file at a key was first written: the one that stands there, or else this one.
+fn first_name(
     alloc: Global,
-    files: &mut Vec<JobBytes>,
-    at: usize,
+    files: &BTreeMap<Text, JobBytes>,
+    key: &Text,
     name: &Text,
-    bytes: Vec<u8>,
-) -> Result<(), StoreErr>
-    requires { at ≤ vec_len files.old }
-    ensures inserted { OnOk result (map filed files.new.items ≡ inserted (map filed files.old.items) at (folded name.now, bytes.items)) }
-    ensures kept { OnErr result (files.new.items ≡ files.old.items) }
+) -> Result<Text, StoreErr>
+    requires filed { AreFiled files.now }
+    requires key { key.now ≡ folded name.now }
+    ensures named { IfOk result (λ first. folded first ≡ key.now) }
     ensures refused { IfErr result (λ e. e ≡ StoreErr.NoMemory) }
 {
-    let Ok(name) = name.copy(alloc) else {
-        return Err(StoreErr::NoMemory);
+    let first = match files.get(key) {
+        Some(job) => job.name.copy(alloc),
+        None => name.copy(alloc),
     };
-    match files.insert(at, JobBytes { name, bytes }) {
-        Ok(()) => Ok(()),
-        Err(_) => Err(StoreErr::NoMemory),
+    match first {
+        Ok(first) => Ok(first),
+        Err(NoMemory) => Err(StoreErr::NoMemory),
     }
 }

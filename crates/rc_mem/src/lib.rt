@@ -2,13 +2,18 @@
 //! it. All of them tell everything that they hold, and nothing of them fails but for want of memory: their counts of
 //! faults are 0 by definition.
 //!
-//! A tree is kept as a list of nodes in the order of their keys, in which a key is found by binary search; contracts
-//! see it as the finite map that the list makes.
+//! A tree is kept as an ordered map from keys to nodes, so that a call costs the logarithm of the entries and the bytes
+//! that it touches; contracts see it as a finite map. The bytes of a file are shared by the tree and the readers that
+//! were made of it, and are copied where they are written.
+//!
+//! [`WideSite`] is for limits: it tells nothing, and lists as many files as it is asked for.
 #![tactic(auto)]
 
+mod bytes;
 mod clock;
 mod input;
 mod jobs;
+mod node;
 mod nodes;
 mod reader;
 mod sink;
@@ -16,11 +21,16 @@ mod site;
 #[cfg(test)]
 mod tests;
 mod tree;
+mod wide;
 
+pub use bytes::SharedBytes;
 pub use clock::FixedClock;
 pub use input::MemInput;
 pub use jobs::{JobBytes, MemJobs};
+pub use node::TreeNode;
+pub use nodes::Nodes;
 pub use reader::{MemReader, MemTally};
 pub use sink::MemSink;
 pub use site::MemSite;
-pub use tree::{Tree, TreeNode};
+pub use tree::Tree;
+pub use wide::WideSite;

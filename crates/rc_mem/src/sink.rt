@@ -1,3 +1,5 @@
+//! A sink in memory.
+
 ghost use Rattle.std.specs.Prelude.{◌≡◌, Bool, true, List, ℕ, []};
 
 use rc_volume::{Sink, SinkErr};

@@ -1,4 +1,3 @@
-pub mod CauseLemmas
 pub mod ListLemmas
 pub mod MergeLemmas
 pub mod PlanLemmas

@@ -13,7 +13,7 @@ use Rattle.rc_tree.specs.Name.{folded}
 use Rattle.rc_tree.specs.Path.{key_cmp, name_cmp}
 use Rattle.rc_tree.specs.Tree.{Tree, Node}
 use Rattle.rc_tree.proofs.Keys.{name_cmp-total, key_cmp-total, name_cmp-IsAntisymmetric, same_key, key_itself, below_apart}
-use Rattle.rc_volume.specs.Site.{ComesAfter, IsNext, IsEnd, Lists, entry_of}
+use Rattle.rc_volume.specs.Site.{ComesAfter, IsListed, IsNext, IsEnd, Lists, entry_of}
 use Rattle.rc_filter.specs.Decided.{is_in_root}
 use Rattle.rc_plan.specs.Roots.{AreRootOf, are_in_order, root_nodes, root_key, keyed, shown, last_listed}
 
@@ -182,9 +182,9 @@ Lists-same s t dir a b f g p q r e h =
     (subst (λ (x : List (List ℕ)). Lists t x a f) q (subst (λ (x : Tree). Lists x dir a f) p h)))
 
 -- a later name, under other names
-pub Comes-same : (a b : Option (List ℕ)) (f : Option Entry) (entry : Entry) → a ≡ b → f ≡ Some entry → IfSome f (λ e. ComesAfter a (folded e.name)) → ComesAfter b (folded entry.name)
-Comes-same a b f entry p q h =
-    subst (λ (x : Option (List ℕ)). ComesAfter x (folded entry.name)) p (subst (λ (x : Option Entry). IfSome x (λ e. ComesAfter a (folded e.name))) q h)
+pub Comes-same : (names : ℕ) (a b : Option (List ℕ)) (f : Option Entry) (entry : Entry) → a ≡ b → f ≡ Some entry → IfSome f (IsListed names a) → ComesAfter b (folded entry.name)
+Comes-same names a b f entry p q h =
+    (subst (λ (x : Option (List ℕ)). IsListed names x entry) p (subst (λ (x : Option Entry). IfSome x (IsListed names a)) q h)).later
 
 -- the entries so far, and what is left
 pub record Listed (tree : Tree) (sofar : List Entry) : Type 0 where

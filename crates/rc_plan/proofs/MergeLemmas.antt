@@ -19,7 +19,7 @@ use Rattle.rc_class.specs.Units.{is_copy}
 use Rattle.rc_job.specs.declared.job.Job.{Job}
 use Rattle.rc_filter.specs.Decided.{is_in_root}
 use Rattle.rc_plan.specs.declared.found.Found.{Found}
-use Rattle.rc_plan.specs.Merge.{AreListed, behind, by_key, found_at, item_from, least, placed}
+use Rattle.rc_plan.specs.Merge.{AreDecided, AreListed, behind, by_key, found_at, item_from, least, placed}
 use Rattle.rc_plan.proofs.ListLemmas.{first_part, second_part, both, is_less, less, holds, is_true}
 
 -- the items of two listings, key by key
@@ -210,23 +210,31 @@ items_all P Q R job moment give s t items (steps u v item others e rest) ours th
 
 -- What a finished merge answers
 
-pub merged_rising : (job : Job) (moment : ℕ) (s t : List Found) (items : List Item) → Merges job moment s t items → AreListed s → AreListed t → are_rising items ≡ true
+merged_rising : (job : Job) (moment : ℕ) (s t : List Found) (items : List Item) → Merges job moment s t items → AreListed s → AreListed t → are_rising items ≡ true
 merged_rising job moment s t items merged ours theirs = is_true _ (sorted_items job moment s t items merged (holds _ ours.rising) (holds _ theirs.rising))
 
-pub merged_items : (job : Job) (moment : ℕ) (s t : List Found) (items : List Item) → Merges job moment s t items → AreListed s → AreListed t → (key : List (List ℕ)) → item_at items key ≡ item_from job moment (found_at s key) (found_at t key)
+merged_items : (job : Job) (moment : ℕ) (s t : List Found) (items : List Item) → Merges job moment s t items → AreListed s → AreListed t → (key : List (List ℕ)) → item_at items key ≡ item_from job moment (found_at s key) (found_at t key)
 merged_items job moment s t items merged ours theirs = items_at job moment s t items merged (holds _ ours.rising) (holds _ theirs.rising)
 
-pub merged_roots : (job : Job) (moment : ℕ) (s t : List Found) (items : List Item) → Merges job moment s t items → AreListed s → AreListed t → All (λ item. is_in_root (key_of item.path) ≡ true) items
+merged_roots : (job : Job) (moment : ℕ) (s t : List Found) (items : List Item) → Merges job moment s t items → AreListed s → AreListed t → All (λ item. is_in_root (key_of item.path) ≡ true) items
 merged_roots job moment s t items merged ours theirs =
     items_all (λ found. is_in_root (key_of found.path) ≡ true) (λ found. is_in_root (key_of found.path) ≡ true) (λ item. is_in_root (key_of item.path) ≡ true) job moment
     (λ x y item e p q. item_path (λ path. is_in_root (key_of path) ≡ true) job moment x y item e p q)
     s t items merged ours.roots theirs.roots
 
-pub merged_small : (job : Job) (moment : ℕ) (s t : List Found) (items : List Item) → Merges job moment s t items → All (λ found. found.facts.size ≤ 2 ^ 40) s → All (λ item. is_copy item.act ≡ true → item.facts.size ≤ 2 ^ 40) items
+merged_small : (job : Job) (moment : ℕ) (s t : List Found) (items : List Item) → Merges job moment s t items → All (λ found. found.facts.size ≤ 2 ^ 40) s → All (λ item. is_copy item.act ≡ true → item.facts.size ≤ 2 ^ 40) items
 merged_small job moment s t items merged small =
     items_all (λ found. found.facts.size ≤ 2 ^ 40) (λ _. Unit {0}) (λ item. is_copy item.act ≡ true → item.facts.size ≤ 2 ^ 40) job moment
     (λ x y item e p q. item_size job moment x y item e p)
     s t items merged small (λ k d l. tt)
+
+pub merged_all : (job : Job) (moment : ℕ) (s t : List Found) (items : List Item) → AreListed s → AreListed t → (job.copy.data_bytes ≡ true → All (λ found. found.facts.size ≤ 2 ^ 40) s) → Merges job moment s t items → AreDecided job moment s t items
+merged_all job moment s t items ours theirs small merged = record {
+  rising = merged_rising job moment s t items merged ours theirs;
+  decided = merged_items job moment s t items merged ours theirs;
+  roots = merged_roots job moment s t items merged ours theirs;
+  small = λ asked. merged_small job moment s t items merged (small asked);
+}
 
 -- The loop
 

@@ -1,8 +1,8 @@
 -- That the merge of what the listings showed is the plan of the two trees.
-use Rattle.std.proofs.Common.{◌≡◌, ℕ, ◌≤◌, ◌^◌, Bool, true, false, cond, ◌&&◌, ◌||◌, List, [], ◌∷◌, Option, Some, None, map, leb-true, refl, sym, ap, subst, ◌∙◌}
+use Rattle.std.proofs.Common.{◌≡◌, ℕ, ◌≤◌, ◌^◌, Bool, true, false, not, cond, ◌&&◌, ◌||◌, List, [], ◌∷◌, Option, Some, None, map, leb-true, refl, sym, ap, subst, ◌∙◌}
 use Rattle.std.proofs.lemmas.Bool.{true≢false}
 use Rattle.std.proofs.lemmas.List.Elements.{All-nil, All-cons}
-use Rattle.std.specs.Prelude.{All, IfSome, option_map}
+use Rattle.std.specs.Prelude.{All, IfSome, nat_le, option_map}
 use Rattle.std.specs.List.{list_all}
 use Rattle.std.specs.FinMap.{get, is_sorted, retain_keys, get-entries}
 use Rattle.std.specs.FinMap.Entries.{find, below_all}
@@ -15,10 +15,10 @@ use Rattle.rc_tree.specs.Tree.{Tree, Node}
 use Rattle.rc_class.specs.Class.{facts_of}
 use Rattle.rc_job.specs.declared.job.Job.{Job}
 use Rattle.rc_filter.specs.Decided.{decided_at, is_file, is_file_kind, is_in_root, item_of, spelling_of}
-use Rattle.rc_volume.specs.Site.{entry_of}
+use Rattle.rc_volume.specs.Site.{Told, entry_of}
 use Rattle.rc_plan.specs.declared.found.Found.{Found}
 use Rattle.rc_plan.specs.Merge.{AreListed, found_at, found_of, item_from, placed}
-use Rattle.rc_plan.specs.Roots.{AreRootOf, are_built, are_in_order, are_listed_built, is_file_entry, is_small_entry, keyed, root_key, root_nodes, shown}
+use Rattle.rc_plan.specs.Roots.{AreRootOf, AreRootsOf, are_built, are_files, are_in_order, are_listed_built, are_small, has_files, is_small, keyed, root_key, root_nodes, shown}
 use Rattle.rc_plan.proofs.ListLemmas.{get_kept}
 
 pub first_of : (a b : Bool) → a && b ≡ true → a ≡ true
@@ -45,40 +45,53 @@ file_kind : (k : Kind) → is_file_kind k ≡ true → k ≡ File
 file_kind File e = refl
 file_kind Dir e = absurd (true≢false (sym e))
 
-all_files : (entries : List Entry) → list_all is_file_entry entries ≡ true → All (λ found. found.facts.kind ≡ File) (map found_of entries)
+all_files : (entries : List Entry) → are_files entries ≡ true → All (λ found. found.facts.kind ≡ File) (map found_of entries)
 all_files [] e = All-nil (λ found. found.facts.kind ≡ File)
 all_files (entry ∷ entries) e =
     All-cons (λ found. found.facts.kind ≡ File) (found_of entry) (map found_of entries)
-    (file_kind entry.kind (first_of (is_file_entry entry) _ e)) (all_files entries (second_of (is_file_entry entry) _ e))
+    (file_kind entry.kind (first_of (is_file_kind entry.kind) _ e)) (all_files entries (second_of (is_file_kind entry.kind) _ e))
 
 all_roots : (entries : List Entry) → All (λ found. is_in_root (key_of found.path) ≡ true) (map found_of entries)
 all_roots [] = All-nil (λ found. is_in_root (key_of found.path) ≡ true)
 all_roots (entry ∷ entries) = All-cons (λ found. is_in_root (key_of found.path) ≡ true) (found_of entry) (map found_of entries) refl (all_roots entries)
 
-small_files : (entries : List Entry) → list_all is_small_entry entries ≡ true → list_all is_file_entry entries ≡ true
-small_files [] e = refl
-small_files (entry ∷ entries) e =
-    ap (λ b. b && list_all is_file_entry entries) (first_of (is_file_kind entry.kind) _ (first_of (is_small_entry entry) _ e))
-    ∙ small_files entries (second_of (is_small_entry entry) _ e)
-
-all_small : (entries : List Entry) → list_all is_small_entry entries ≡ true → All (λ found. found.facts.size ≤ 2 ^ 40) (map found_of entries)
+all_small : (entries : List Entry) → are_small entries ≡ true → All (λ found. found.facts.size ≤ 2 ^ 40) (map found_of entries)
 all_small [] e = All-nil (λ found. found.facts.size ≤ 2 ^ 40)
 all_small (entry ∷ entries) e =
     All-cons (λ found. found.facts.size ≤ 2 ^ 40) (found_of entry) (map found_of entries)
-    (leb-true entry.size (2 ^ 40) (second_of (is_file_kind entry.kind) _ (first_of (is_small_entry entry) _ e)))
-    (all_small entries (second_of (is_small_entry entry) _ e))
+    (leb-true entry.size (2 ^ 40) (first_of (nat_le entry.size (2 ^ 40)) _ e))
+    (all_small entries (second_of (nat_le entry.size (2 ^ 40)) _ e))
 
-listed : (entries : List Entry) → are_in_order entries ≡ true → list_all is_file_entry entries ≡ true → AreListed (map found_of entries)
+listed : (entries : List Entry) → are_in_order entries ≡ true → are_files entries ≡ true → AreListed (map found_of entries)
 listed entries order files = record { rising = sorted_same entries ∙ order; files = all_files entries files; roots = all_roots entries }
 
-pub ours_listed : (source target : List Entry) (found : List Found) → found ≡ map found_of source → are_in_order source ≡ true → are_listed_built source target ≡ true → AreListed found
-ours_listed source target found e order built = subst AreListed (sym e) (listed source order (small_files source (first_of (list_all is_small_entry source) _ built)))
+where_asked : (asked holds : Bool) → not asked || holds ≡ true → asked ≡ true → holds ≡ true
+where_asked true holds e t = e
+where_asked false holds e t = absurd (true≢false (sym t))
 
-pub theirs_listed : (source target : List Entry) (found : List Found) → found ≡ map found_of target → are_in_order target ≡ true → are_listed_built source target ≡ true → AreListed found
-theirs_listed source target found e order built = subst AreListed (sym e) (listed target order (second_of (list_all is_small_entry source) _ built))
+-- roots that are mirrored so far have files alone, and where bytes are copied no large one
+pub record Built (job : Job) (source target : List Entry) : Type 0 where
+  pub ours : are_files source ≡ true
+  pub theirs : are_files target ≡ true
+  pub small : job.copy.data_bytes ≡ true → are_small source ≡ true
 
-pub ours_small : (source target : List Entry) (found : List Found) → found ≡ map found_of source → are_listed_built source target ≡ true → All (λ found. found.facts.size ≤ 2 ^ 40) found
-ours_small source target found e built = subst (All (λ f. f.facts.size ≤ 2 ^ 40)) (sym e) (all_small source (first_of (list_all is_small_entry source) _ built))
+built : (job : Job) (source target : List Entry) → are_listed_built job source target ≡ true → Built job source target
+built job source target e =
+    let files = first_of (are_files source && are_files target) _ e in
+    record {
+      ours = first_of (are_files source) _ files;
+      theirs = second_of (are_files source) _ files;
+      small = where_asked job.copy.data_bytes _ (second_of (are_files source && are_files target) _ e);
+    }
+
+pub ours_listed : (job : Job) (source target : List Entry) (found : List Found) → found ≡ map found_of source → are_in_order source ≡ true → are_listed_built job source target ≡ true → AreListed found
+ours_listed job source target found e order all = subst AreListed (sym e) (listed source order (built job source target all).ours)
+
+pub theirs_listed : (job : Job) (source target : List Entry) (found : List Found) → found ≡ map found_of target → are_in_order target ≡ true → are_listed_built job source target ≡ true → AreListed found
+theirs_listed job source target found e order all = subst AreListed (sym e) (listed target order (built job source target all).theirs)
+
+pub ours_small : (job : Job) (source target : List Entry) (found : List Found) → found ≡ map found_of source → are_listed_built job source target ≡ true → job.copy.data_bytes ≡ true → All (λ found. found.facts.size ≤ 2 ^ 40) found
+ours_small job source target found e all asked = subst (All (λ f. f.facts.size ≤ 2 ^ 40)) (sym e) (all_small source ((built job source target all).small asked))
 
 -- What was listed, and the tree
 
@@ -95,10 +108,17 @@ all_root : (test : Entry → Bool) (tree : Tree) (entries : List Entry) → AreR
 all_root test tree entries root =
     all_keyed test entries ∙ ap (list_all (λ (x : List (List ℕ) × Entry). test x.1)) root ∙ all_shown test (root_nodes tree)
 
-pub built_same : (ours theirs : Tree) (source target : List Entry) → AreRootOf ours source → AreRootOf theirs target → are_built ours theirs ≡ are_listed_built source target
-built_same ours theirs source target mine yours =
-    ap (λ b. b && list_all (λ (p : List (List ℕ) × Node). is_file_kind p.1.kind) (root_nodes theirs)) (sym (all_root is_small_entry ours source mine))
-    ∙ ap (λ b. list_all is_small_entry source && b) (sym (all_root is_file_entry theirs target yours))
+built_same : (job : Job) (told : Told) (source target : List Entry) → AreRootsOf told source target → are_built job told ≡ are_listed_built job source target
+built_same job told source target roots =
+    ap (λ b. b && has_files told.target && (not job.copy.data_bytes || is_small told.source)) (sym (all_root (λ entry. is_file_kind entry.kind) told.source source roots.ours))
+    ∙ ap (λ b. are_files source && b && (not job.copy.data_bytes || is_small told.source)) (sym (all_root (λ entry. is_file_kind entry.kind) told.target target roots.theirs))
+    ∙ ap (λ b. are_files source && are_files target && (not job.copy.data_bytes || b)) (sym (all_root (λ entry. nat_le entry.size (2 ^ 40)) told.source source roots.ours))
+
+-- what was asked of the listings answers for the trees
+pub built_so : (job : Job) (told : Told) (source target ours theirs : List Entry) (result : Bool) → AreRootsOf told source target → ours ≡ source → theirs ≡ target → result ≡ are_listed_built job ours theirs → are_built job told ≡ result
+built_so job told source target ours theirs result roots p q e =
+    built_same job told source target roots
+    ∙ sym (ap (λ (xs : List Entry). are_listed_built job xs theirs) p ∙ ap (λ (ys : List Entry). are_listed_built job source ys) q) ∙ sym e
 
 placed_keyed : (entries : List Entry) → map placed (map found_of entries) ≡ map (λ (x : List (List ℕ) × Entry). (x.0, found_of x.1)) (map keyed entries)
 placed_keyed [] = refl
@@ -131,10 +151,10 @@ found_passes test (p ∷ nodes) key e =
     ]
 
 -- each entry of a root that is mirrored so far is a file
-file_at : (tree : Tree) (entries : List Entry) (name : List ℕ) → AreRootOf tree entries → list_all is_file_entry entries ≡ true → IfSome (get tree (name ∷ [])) (λ node. is_file_kind node.kind ≡ true)
+file_at : (tree : Tree) (entries : List Entry) (name : List ℕ) → AreRootOf tree entries → are_files entries ≡ true → IfSome (get tree (name ∷ [])) (λ node. is_file_kind node.kind ≡ true)
 file_at tree entries name root files =
     subst (λ (o : Option Node). IfSome o (λ node. is_file_kind node.kind ≡ true)) (find_root tree (name ∷ []))
-    (found_passes (λ node. is_file_kind node.kind) (root_nodes tree) (name ∷ []) (sym (all_root is_file_entry tree entries root) ∙ files))
+    (found_passes (λ node. is_file_kind node.kind) (root_nodes tree) (name ∷ []) (sym (all_root (λ entry. is_file_kind entry.kind) tree entries root) ∙ files))
 
 decided_so : (job : Job) (moment : ℕ) (source target : Option Node) → IfSome source (λ node. is_file_kind node.kind ≡ true) → IfSome target (λ node. is_file_kind node.kind ≡ true) → item_from job moment (option_map (λ (node : Node). found_of (entry_of node)) source) (option_map (λ (node : Node). found_of (entry_of node)) target) ≡ cond (is_file source || is_file target) (item_of job moment (spelling_of source ∷ []) (spelling_of target ∷ []) (option_map facts_of source) (option_map facts_of target)) None
 decided_so job moment None None mine yours = refl
@@ -149,16 +169,16 @@ decided_so job moment (Some node) target mine yours =
     by_target (Some there) = refl
 
 -- what the merge has at a key is what is decided there of the two trees
-pub decided : (job : Job) (moment : ℕ) (ours theirs : Tree) (source target : List Entry) (key : List (List ℕ)) → AreRootOf ours source → AreRootOf theirs target → are_listed_built source target ≡ true → item_from job moment (found_at (map found_of source) key) (found_at (map found_of target) key) ≡ decided_at job ours theirs moment key
-decided job moment ours theirs source target key mine yours built =
-    ap (λ (x : Option Found). item_from job moment x (found_at (map found_of target) key)) (found_root ours source key mine)
-    ∙ ap (λ (y : Option Found). item_from job moment (option_map (λ (node : Node). found_of (entry_of node)) (cond (is_in_root key) (get ours key) None)) y) (found_root theirs target key yours)
+pub decided : (job : Job) (moment : ℕ) (told : Told) (source target : List Entry) (key : List (List ℕ)) → AreRootsOf told source target → are_listed_built job source target ≡ true → item_from job moment (found_at (map found_of source) key) (found_at (map found_of target) key) ≡ decided_at job told.source told.target moment key
+decided job moment told source target key roots all =
+    ap (λ (x : Option Found). item_from job moment x (found_at (map found_of target) key)) (found_root told.source source key roots.ours)
+    ∙ ap (λ (y : Option Found). item_from job moment (option_map (λ (node : Node). found_of (entry_of node)) (cond (is_in_root key) (get told.source key) None)) y) (found_root told.target target key roots.theirs)
     ∙ by_key key
   where
-    by_key : (key : List (List ℕ)) → item_from job moment (option_map (λ (node : Node). found_of (entry_of node)) (cond (is_in_root key) (get ours key) None)) (option_map (λ (node : Node). found_of (entry_of node)) (cond (is_in_root key) (get theirs key) None)) ≡ decided_at job ours theirs moment key
+    by_key : (key : List (List ℕ)) → item_from job moment (option_map (λ (node : Node). found_of (entry_of node)) (cond (is_in_root key) (get told.source key) None)) (option_map (λ (node : Node). found_of (entry_of node)) (cond (is_in_root key) (get told.target key) None)) ≡ decided_at job told.source told.target moment key
     by_key [] = refl
     by_key (name ∷ []) =
-        decided_so job moment (get ours (name ∷ [])) (get theirs (name ∷ []))
-        (file_at ours source name mine (small_files source (first_of (list_all is_small_entry source) _ built)))
-        (file_at theirs target name yours (second_of (list_all is_small_entry source) _ built))
+        decided_so job moment (get told.source (name ∷ [])) (get told.target (name ∷ []))
+        (file_at told.source source name roots.ours (built job source target all).ours)
+        (file_at told.target target name roots.theirs (built job source target all).theirs)
     by_key (name ∷ next ∷ names) = refl

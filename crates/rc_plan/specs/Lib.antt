@@ -1,2 +1,4 @@
+pub mod Faults
 pub mod Merge
+pub mod Plan
 pub mod Roots

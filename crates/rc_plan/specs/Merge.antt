@@ -7,9 +7,11 @@ use Rattle.rc_tree.specs.declared.attr.Kind.TheVariants.{File}
 use Rattle.rc_tree.specs.declared.entry.Entry.{Entry}
 use Rattle.rc_tree.specs.Path.{key_of, key_cmp}
 use Rattle.rc_class.specs.declared.item.Item.{Item}
+use Rattle.rc_class.specs.Items.{are_rising, item_at}
 use Rattle.rc_job.specs.declared.job.Job.{Job}
 use Rattle.rc_filter.specs.Decided.{is_in_root, item_of}
 use Rattle.rc_plan.specs.declared.found.Found.{Found}
+use Rattle.rc_plan.specs.Plan.{AreInRoot, AreSmallCopies}
 
 -- what is decided by of an entry of a root
 abbrev pub found_of : Entry → Found
@@ -59,3 +61,10 @@ abbrev pub behind : Option Found → List Found → List Found
 behind None all = all
 behind (Some found) [] = []
 behind (Some found) (first ∷ rest) = rest
+
+-- the items of all keys at which one of the two sides has a file, in the order of the keys
+pub record AreDecided (job : Job) (moment : ℕ) (source target : List Found) (items : List Item) : Type 0 where
+  pub rising : are_rising items ≡ true
+  pub decided : (key : List (List ℕ)) → item_at items key ≡ item_from job moment (found_at source key) (found_at target key)
+  pub roots : AreInRoot items
+  pub small : job.copy.data_bytes ≡ true → AreSmallCopies items

@@ -1,12 +1,13 @@
 -- What a listing of a root shows, and which roots are mirrored so far.
-use Rattle.std.specs.Prelude.{◌≡◌, ℕ, ◌^◌, Bool, ◌&&◌, List, [], ◌∷◌, Option, Some, None, map, length, nat_le}
+use Rattle.std.specs.Prelude.{◌≡◌, ℕ, ◌^◌, Bool, not, ◌&&◌, ◌||◌, List, [], ◌∷◌, Option, Some, None, map, length, nat_le}
 use Rattle.std.specs.List.{list_all}
 use Rattle.std.specs.FinMap.{entries, retain_keys, is_sorted}
 use Rattle.rc_tree.specs.declared.entry.Entry.{Entry}
 use Rattle.rc_tree.specs.Name.{folded}
 use Rattle.rc_tree.specs.Path.{key_cmp}
-use Rattle.rc_tree.specs.Tree.{Node, Tree}
-use Rattle.rc_volume.specs.Site.{entry_of}
+use Rattle.rc_tree.specs.Tree.{IsTree, Node, Tree}
+use Rattle.rc_job.specs.declared.job.Job.{Job}
+use Rattle.rc_volume.specs.Site.{Told, entry_of}
 use Rattle.rc_filter.specs.Decided.{is_file_kind, is_in_root}
 
 -- what stands in a tree's root, in the order of keys
@@ -39,23 +40,37 @@ last_listed [] = None
 last_listed (entry ∷ []) = Some entry.name
 last_listed (entry ∷ next ∷ entries) = last_listed (next ∷ entries)
 
+-- each root's entries are those of its tree
+pub record AreRootsOf (told : Told) (source target : List Entry) : Type 0 where
+  pub ours : AreRootOf told.source source
+  pub theirs : AreRootOf told.target target
+
+-- both trees that are told are trees
+pub record AreTrees (told : Told) : Type 0 where
+  pub source : IsTree told.source
+  pub target : IsTree told.target
+
 -- What is mirrored so far
 
--- whether it is a file of at most 2^40 bytes
-abbrev pub is_small_file : Node → Bool
-is_small_file node = is_file_kind node.kind && nat_le (length node.bytes) (2 ^ 40)
+-- whether the root holds files alone
+abbrev pub has_files : Tree → Bool
+has_files tree = list_all (λ placed. is_file_kind placed.1.kind) (root_nodes tree)
 
--- whether the roots hold what is mirrored so far: files alone, and in the source none of more than 2^40 bytes
-abbrev pub are_built : Tree → Tree → Bool
-are_built source target =
-    list_all (λ placed. is_small_file placed.1) (root_nodes source) && list_all (λ placed. is_file_kind placed.1.kind) (root_nodes target)
+-- whether nothing in it has more than 2^40 bytes
+abbrev pub is_small : Tree → Bool
+is_small tree = list_all (λ placed. nat_le (length placed.1.bytes) (2 ^ 40)) (root_nodes tree)
+
+-- whether the roots hold what a job mirrors so far: files alone, and where bytes are copied, in the source none of more
+-- than 2^40 bytes
+abbrev pub are_built : Job → Told → Bool
+are_built job told = has_files told.source && has_files told.target && (not job.copy.data_bytes || is_small told.source)
 
 -- the same of what a listing showed
-abbrev pub is_file_entry : Entry → Bool
-is_file_entry entry = is_file_kind entry.kind
+abbrev pub are_files : List Entry → Bool
+are_files entries = list_all (λ entry. is_file_kind entry.kind) entries
 
-abbrev pub is_small_entry : Entry → Bool
-is_small_entry entry = is_file_kind entry.kind && nat_le entry.size (2 ^ 40)
+abbrev pub are_small : List Entry → Bool
+are_small entries = list_all (λ entry. nat_le entry.size (2 ^ 40)) entries
 
-abbrev pub are_listed_built : List Entry → List Entry → Bool
-are_listed_built source target = list_all is_small_entry source && list_all is_file_entry target
+abbrev pub are_listed_built : Job → List Entry → List Entry → Bool
+are_listed_built job source target = are_files source && are_files target && (not job.copy.data_bytes || are_small source)

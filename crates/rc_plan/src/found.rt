@@ -1,9 +1,11 @@
+//! What is decided of the entries of a root.
+
 ghost use Rattle.std.specs.Prelude.{◌≡◌, [], map, IfOk};
-ghost use Rattle.std.specs.List.{list_all};
-ghost use Rattle.rc_plan.specs.Roots.{are_listed_built, is_file_entry, is_small_entry};
+ghost use Rattle.rc_plan.specs.Roots.{are_files, are_listed_built, are_small};
 ghost use Rattle.rc_plan.specs.Merge.{found_of};
 
 use rc_class::Facts;
+use rc_job::Job;
 use rc_tree::{Entry, Kind, NoMemory, Path};
 use std::alloc::Global;
 
@@ -26,37 +28,25 @@ pub(crate) fn find_all(alloc: Global, entries: &[Entry]) -> Result<Vec<Found>, N
     Ok(found)
 }
 
-/// Whether the roots hold what is mirrored so far.
-pub(crate) fn are_built(source: &[Entry], target: &[Entry]) -> bool
-    ensures { result ≡ are_listed_built source.now target.now }
+/// Whether the roots hold what a job mirrors so far.
+pub(crate) fn are_built(job: &Job, source: &[Entry], target: &[Entry]) -> bool
+    ensures { result ≡ are_listed_built job.now source.now target.now }
 {
-    are_small_files(source) && are_files(target)
+    are_files(source) && are_files(target) && (!job.copy.data_bytes || are_small(source))
 }
 
 // Whether all entries are files.
 fn are_files(entries: &[Entry]) -> bool
-    ensures { result ≡ list_all is_file_entry entries.now }
+    ensures { result ≡ are_files entries.now }
 {
-    entries.iter().all(is_file)
+    entries.iter().all(|entry| entry.kind == Kind::File)
 }
 
-// Whether all entries are files of at most 2^40 bytes.
-fn are_small_files(entries: &[Entry]) -> bool
-    ensures { result ≡ list_all is_small_entry entries.now }
+// Whether no entry has more than 2^40 bytes.
+fn are_small(entries: &[Entry]) -> bool
+    ensures { result ≡ are_small entries.now }
 {
-    entries.iter().all(is_small_file)
-}
-
-fn is_file(entry: &Entry) -> bool
-    ensures { result ≡ is_file_entry entry.now }
-{
-    entry.kind == Kind::File
-}
-
-fn is_small_file(entry: &Entry) -> bool
-    ensures { result ≡ is_small_entry entry.now }
-{
-    entry.kind == Kind::File && entry.size <= 1 << 40
+    entries.iter().all(|entry| entry.size <= 1 << 40)
 }
 
 fn find(alloc: Global, root: &Path, entry: &Entry) -> Result<Found, NoMemory>

@@ -8,7 +8,5 @@ mod found;
 mod listing;
 mod merge;
 mod plan;
-#[cfg(test)]
-mod tests;
 
 pub use plan::{PlanErr, make_plan};

@@ -1,11 +1,12 @@
-ghost use Rattle.std.specs.Prelude.{◌≡◌, ◌≤◌, ℕ, true, option_map, IfOk, IfErr, IfSome};
-ghost use Rattle.rc_tree.specs.Name.{folded};
+//! The listing of a root.
+
+ghost use Rattle.std.specs.Prelude.{◌≡◌, true, length, option_map, IfOk, IfSome};
+ghost use Rattle.std.specs.Option.{option_copied};
 ghost use Rattle.rc_tree.specs.Path.{key_of};
-ghost use Rattle.rc_tree.specs.Tree.{IsDirectory};
-ghost use Rattle.rc_volume.specs.declared.site.Part.{Part};
-ghost use Rattle.rc_volume.specs.declared.site.Side.{Side};
-ghost use Rattle.rc_volume.specs.Faults.{Rose};
-ghost use Rattle.rc_volume.specs.Site.{ComesAfter, Lists, part_for, tree_of};
+ghost use Rattle.rc_tree.specs.Tree.{IsDirectory, IsTree};
+ghost use Rattle.rc_volume.specs.Frames.{Looks};
+ghost use Rattle.rc_volume.specs.Site.{IsListed, Lists, tree_in};
+ghost use Rattle.rc_plan.specs.Faults.{list_cause};
 ghost use Rattle.rc_plan.specs.Roots.{AreRootOf, are_in_order, last_listed};
 
 use crate::PlanErr;
@@ -14,19 +15,16 @@ use rc_volume::{Side, Site, SiteErr};
 use std::alloc::Global;
 
 /// The entries of a side's root, in the order of their folded names.
-#[tactic(none)]
 pub(crate) fn list_root<S: Site>(
     alloc: Global,
     site: &mut S,
     side: Side,
 ) -> Result<Vec<Entry>, PlanErr>
-    ensures listed { S.tells ≡ true → IfOk result (λ entries. AreRootOf (tree_of (S.told site.old) side) entries.items) }
+    ensures listed { S.tells ≡ true → IfOk result
+        (λ entries. AreRootOf (tree_in (S.view site.old) side) entries.items) }
+    ensures tree { S.tells ≡ true → IsTree (tree_in (S.view site.old) side) }
     ensures rising { IfOk result (λ entries. are_in_order entries.items ≡ true) }
-    ensures same { S.tells ≡ true → S.told site.new ≡ S.told site.old }
-    ensures opened { S.opened site.new ≡ S.opened site.old }
-    ensures counts { (part : Part) → S.faults site.old part ≤ S.faults site.new part }
-    ensures cause { IfErr result (λ e. (at : Side) → e ≡ PlanErr.ListFault at → Rose (S.faults site.old (part_for at)) (S.faults site.new (part_for at))) }
-    ensures built { IfErr result (λ e. e ≡ PlanErr.NotBuilt → ⊥) }
+    ensures frame { Looks S.tells (list_cause result) (S.view site.old) (S.view site.new) }
 {
     let root = Path::root(alloc);
     let mut entries = Vec::new(alloc);
@@ -51,15 +49,14 @@ fn next_entry<S: Site>(
     dir: &Path,
     after: Option<&Name>,
 ) -> Result<Option<Entry>, PlanErr>
-    requires { S.tells ≡ true → IsDirectory (tree_of (S.told site.old) side) (key_of dir.now) }
+    requires { S.tells ≡ true → IsDirectory (tree_in (S.view site.old) side) (key_of dir.now) }
 
-    ensures listed { S.tells ≡ true → IfOk result (Lists (tree_of (S.told site.old) side) (key_of dir.now) (option_map (λ name. name.now) after.entry)) }
-    ensures rising { IfOk result (λ found. IfSome found (λ entry. ComesAfter (option_map (λ name. name.now) after.entry) (folded entry.name))) }
-    ensures same { S.tells ≡ true → S.told site.new ≡ S.told site.old }
-    ensures opened { S.opened site.new ≡ S.opened site.old }
-    ensures counts { (part : Part) → S.faults site.old part ≤ S.faults site.new part }
-    ensures cause { IfErr result (λ e. (at : Side) → e ≡ PlanErr.ListFault at → Rose (S.faults site.old (part_for at)) (S.faults site.new (part_for at))) }
-    ensures built { IfErr result (λ e. e ≡ PlanErr.NotBuilt → ⊥) }
+    ensures listed { S.tells ≡ true → IfOk result
+        (Lists (tree_in (S.view site.old) side) (key_of dir.now) (option_copied after.entry)) }
+    ensures tree { S.tells ≡ true → IsTree (tree_in (S.view site.old) side) }
+    ensures rising { IfOk result
+        (λ found. IfSome found (IsListed (length dir.now) (option_copied after.entry))) }
+    ensures frame { Looks S.tells (list_cause result) (S.view site.old) (S.view site.new) }
 {
     match site.next_entry(alloc, side, dir, after) {
         Ok(found) => Ok(found),
@@ -70,7 +67,7 @@ fn next_entry<S: Site>(
 
 // The name of the last entry.
 fn last_name(entries: &[Entry]) -> Option<&Name>
-    ensures { option_map (λ name. name.now) result ≡ last_listed entries.now }
+    ensures { option_copied result ≡ last_listed entries.now }
 {
     match entries {
         [] => None,

@@ -1,10 +1,10 @@
-ghost use Rattle.std.specs.Prelude.{◌≡◌, ◌≤◌, ◌^◌, ℕ, true, List, All, IfOk, IfSome, option_map};
+//! The merge of what was found of two roots, key by key.
+
+ghost use Rattle.std.specs.Prelude.{◌≡◌, ◌≤◌, ◌^◌, true, All, IfOk, IfSome};
+ghost use Rattle.std.specs.Option.{option_copied};
 ghost use Rattle.rc_tree.specs.declared.attr.Kind.TheVariants.{File};
-ghost use Rattle.rc_tree.specs.Path.{key_of};
-ghost use Rattle.rc_class.specs.Items.{are_rising, item_at};
-ghost use Rattle.rc_class.specs.Units.{is_copy};
-ghost use Rattle.rc_filter.specs.Decided.{extra_item, is_in_root, source_item};
-ghost use Rattle.rc_plan.specs.Merge.{AreListed, behind, found_at, item_from, least};
+ghost use Rattle.rc_filter.specs.Decided.{extra_item, source_item};
+ghost use Rattle.rc_plan.specs.Merge.{AreDecided, AreListed, behind, item_from, least};
 
 use crate::found::Found;
 use rc_class::{After, Class, Facts, Item, class_of};
@@ -15,7 +15,6 @@ use std::alloc::Global;
 use std::cmp::Ordering;
 
 /// The items of all keys at which one of the sides has a file, in the order of the keys.
-#[tactic(none)]
 pub(crate) fn merge(
     alloc: Global,
     job: &Job,
@@ -25,12 +24,11 @@ pub(crate) fn merge(
 ) -> Result<Vec<Item>, NoMemory>
     requires ours { AreListed source.now }
     requires theirs { AreListed target.now }
-    requires small { All (λ found. found.facts.size ≤ 2 ^ 40) source.now }
+    requires small { job.now.copy.data_bytes ≡ true →
+        All (λ found. found.facts.size ≤ 2 ^ 40) source.now }
 
-    ensures rising { IfOk result (λ items. are_rising items.items ≡ true) }
-    ensures items { IfOk result (λ items. (key : List (List ℕ)) → item_at items.items key ≡ item_from job.now moment (found_at source.now key) (found_at target.now key)) }
-    ensures roots { IfOk result (λ items. All (λ item. is_in_root (key_of item.path) ≡ true) items.items) }
-    ensures small { IfOk result (λ items. All (λ item. is_copy item.act ≡ true → item.facts.size ≤ 2 ^ 40) items.items) }
+    ensures { IfOk result
+        (λ items. AreDecided job.now moment source.now target.now items.items) }
 {
     let mut items = Vec::new(alloc);
     let mut ours = source;
@@ -53,8 +51,8 @@ pub(crate) fn merge(
 
 // What the two sides have at the least key of both.
 fn least<'a>(ours: &'a [Found], theirs: &'a [Found]) -> (Option<&'a Found>, Option<&'a Found>)
-    ensures source { option_map (λ found. found.now) result.0 ≡ (least ours.now theirs.now).0 }
-    ensures target { option_map (λ found. found.now) result.1 ≡ (least ours.now theirs.now).1 }
+    ensures source { option_copied result.0 ≡ (least ours.now theirs.now).0 }
+    ensures target { option_copied result.1 ≡ (least ours.now theirs.now).1 }
 {
     match (ours, theirs) {
         ([], []) => (None, None),
@@ -70,7 +68,7 @@ fn least<'a>(ours: &'a [Found], theirs: &'a [Found]) -> (Option<&'a Found>, Opti
 
 // Those behind the first, where that was taken.
 fn behind<'a>(taken: Option<&Found>, all: &'a [Found]) -> &'a [Found]
-    ensures { result.now ≡ behind (option_map (λ found. found.now) taken.entry) all.now }
+    ensures { result.now ≡ behind (option_copied taken.entry) all.now }
 {
     match (taken, all) {
         (Some(_), [_, rest @ ..]) => rest,
@@ -89,7 +87,8 @@ fn decide(
     requires ours { IfSome source (λ found. found.now.facts.kind ≡ File) }
     requires theirs { IfSome target (λ found. found.now.facts.kind ≡ File) }
 
-    ensures { IfOk result (λ item. item ≡ item_from job.now moment (option_map (λ found. found.now) source.entry) (option_map (λ found. found.now) target.entry)) }
+    ensures { IfOk result (λ item. item
+        ≡ item_from job.now moment (option_copied source.entry) (option_copied target.entry)) }
 {
     match (source, target) {
         (Some(source), target) => {
@@ -110,7 +109,8 @@ fn source_item(
     target: Option<Facts>,
 ) -> Result<Item, NoMemory>
     requires { source.now.facts.kind ≡ File }
-    ensures { IfOk result (λ item. item ≡ source_item job.now moment source.now.path source.now.facts target) }
+    ensures { IfOk result
+        (λ item. item ≡ source_item job.now moment source.now.path source.now.facts target) }
 {
     Ok(Item {
         path: source.path.copy(alloc)?,

@@ -1,16 +1,13 @@
-ghost use Rattle.std.specs.Prelude.{◌≡◌, ◌≤◌, ◌^◌, ℕ, true, false, List, map, All, IfOk, IfErr, OnOk, IsErrOf};
-ghost use Rattle.rc_tree.specs.Path.{key_of};
-ghost use Rattle.rc_tree.specs.Tree.{Tree};
-ghost use Rattle.rc_class.specs.Items.{are_rising, item_at};
+//! The plan of a job on the two trees of a site.
+
+ghost use Rattle.std.specs.Prelude.{◌≡◌, true, false, map, IfOk, OnOk, IsErrOf};
 ghost use Rattle.rc_class.specs.Start.{IsPlanOf};
-ghost use Rattle.rc_class.specs.Units.{is_copy};
-ghost use Rattle.rc_filter.specs.Decided.{is_in_root, start_of};
-ghost use Rattle.rc_volume.specs.declared.site.Part.{Part};
-ghost use Rattle.rc_volume.specs.declared.site.Side.{Side};
-ghost use Rattle.rc_volume.specs.Faults.{Rose};
-ghost use Rattle.rc_volume.specs.Site.{part_for};
-ghost use Rattle.rc_plan.specs.Merge.{found_at, found_of, item_from};
-ghost use Rattle.rc_plan.specs.Roots.{AreRootOf, are_built, are_in_order, are_listed_built};
+ghost use Rattle.rc_volume.specs.Frames.{Looks};
+ghost use Rattle.rc_volume.specs.Site.{Told};
+ghost use Rattle.rc_plan.specs.Faults.{list_cause, plan_cause};
+ghost use Rattle.rc_plan.specs.Merge.{AreDecided, found_of};
+ghost use Rattle.rc_plan.specs.Plan.{IsMadeFor, start_in};
+ghost use Rattle.rc_plan.specs.Roots.{AreRootsOf, AreTrees, are_built, are_in_order, are_listed_built};
 
 use crate::found::{are_built, find_all};
 use crate::listing::list_root;
@@ -28,7 +25,7 @@ pub enum PlanErr {
     /// A root could not be listed. That side's count of faults rose.
     #[error("a root could not be listed")]
     ListFault { side: Side },
-    /// A root has a directory, or the source's has a file of more than 2^40 bytes: not mirrored yet.
+    /// A root has a directory, or bytes are copied and the source's has a file of more than 2^40: not mirrored yet.
     #[error("a root has what is not mirrored yet")]
     NotBuilt,
     #[error("out of memory")]
@@ -36,7 +33,6 @@ pub enum PlanErr {
 }
 
 /// The plan of a job on the two trees of a site, at a moment. No tree is changed.
-#[tactic(none)]
 pub fn make_plan<S: Site, C: Clock>(
     alloc: Global,
     job: &Job,
@@ -44,38 +40,39 @@ pub fn make_plan<S: Site, C: Clock>(
     site: &mut S,
     _clock: &C,
 ) -> Result<Plan, PlanErr>
-    ensures plan { S.tells ≡ true → IfOk result (IsPlanOf (start_of job.now (S.told site.old).source (S.told site.old).target)) }
-    ensures moment { IfOk result (λ plan. plan.moment ≡ moment) }
-    // Of every site, told or not:
-    ensures stride { IfOk result (λ plan. plan.stride ≡ 0) }
-    ensures bytes { IfOk result (λ plan. plan.with_bytes ≡ job.now.copy.data_bytes) }
-    ensures rising { IfOk result (λ plan. are_rising plan.items ≡ true) }
-    ensures roots { IfOk result (λ plan. All (λ item. is_in_root (key_of item.path) ≡ true) plan.items) }
-    ensures small { IfOk result (λ plan. All (λ item. is_copy item.act ≡ true → item.facts.size ≤ 2 ^ 40) plan.items) }
-    ensures built { S.tells ≡ true → OnOk result (are_built (S.told site.old).source (S.told site.old).target ≡ true) }
-    ensures not_built { S.tells ≡ true → IsErrOf result PlanErr.NotBuilt → are_built (S.told site.old).source (S.told site.old).target ≡ false }
-    ensures same { S.tells ≡ true → S.told site.new ≡ S.told site.old }
-    ensures opened { S.opened site.new ≡ S.opened site.old }
-    ensures counts { (part : Part) → S.faults site.old part ≤ S.faults site.new part }
-    ensures cause { (side : Side) → IsErrOf result (PlanErr.ListFault side) → Rose (S.faults site.old (part_for side)) (S.faults site.new (part_for side)) }
+    ensures plan { S.tells ≡ true →
+        IfOk result (IsPlanOf (start_in job.now (S.view site.old).told)) }
+    ensures trees { S.tells ≡ true → OnOk result (AreTrees (S.view site.old).told) }
+    ensures built { S.tells ≡ true →
+        OnOk result (are_built job.now (S.view site.old).told ≡ true) }
+    ensures not_built { S.tells ≡ true → IsErrOf result PlanErr.NotBuilt →
+        are_built job.now (S.view site.old).told ≡ false }
+    // On every site, told or not.
+    ensures made { IfOk result (IsMadeFor job.now moment) }
+    ensures frame { Looks S.tells (plan_cause result) (S.view site.old) (S.view site.new) }
 {
     match list_roots(alloc, site) {
-        Ok((source, target)) => plan_of(alloc, job, moment, &source, &target),
+        Ok((source, target)) => {
+            if !are_built(job, &source, &target) {
+                return Err(PlanErr::NotBuilt);
+            }
+            match plan_of(alloc, job, moment, &source, &target) {
+                Ok(plan) => Ok(plan),
+                Err(_) => Err(PlanErr::NoMemory),
+            }
+        }
         Err(e) => Err(e),
     }
 }
 
 // The entries of both roots, each in the order of their folded names.
-#[tactic(none)]
 fn list_roots<S: Site>(alloc: Global, site: &mut S) -> Result<(Vec<Entry>, Vec<Entry>), PlanErr>
-    ensures source { S.tells ≡ true → IfOk result (λ roots. AreRootOf (S.told site.old).source roots.0.items) }
-    ensures target { S.tells ≡ true → IfOk result (λ roots. AreRootOf (S.told site.old).target roots.1.items) }
-    ensures rising { IfOk result (λ roots. (are_in_order roots.0.items ≡ true) × (are_in_order roots.1.items ≡ true)) }
-    ensures same { S.tells ≡ true → S.told site.new ≡ S.told site.old }
-    ensures opened { S.opened site.new ≡ S.opened site.old }
-    ensures counts { (part : Part) → S.faults site.old part ≤ S.faults site.new part }
-    ensures cause { IfErr result (λ e. (side : Side) → e ≡ PlanErr.ListFault side → Rose (S.faults site.old (part_for side)) (S.faults site.new (part_for side))) }
-    ensures built { IfErr result (λ e. e ≡ PlanErr.NotBuilt → ⊥) }
+    ensures listed { S.tells ≡ true → IfOk result
+        (λ roots. AreRootsOf (S.view site.old).told roots.0.items roots.1.items) }
+    ensures trees { S.tells ≡ true → OnOk result (AreTrees (S.view site.old).told) }
+    ensures source { IfOk result (λ roots. are_in_order roots.0.items ≡ true) }
+    ensures target { IfOk result (λ roots. are_in_order roots.1.items ≡ true) }
+    ensures frame { Looks S.tells (list_cause result) (S.view site.old) (S.view site.new) }
 {
     match list_root(alloc, site, Side::Source) {
         Ok(source) => match list_root(alloc, site, Side::Target) {
@@ -87,46 +84,34 @@ fn list_roots<S: Site>(alloc: Global, site: &mut S) -> Result<(Vec<Entry>, Vec<E
 }
 
 // The plan of a job on two trees whose roots have these entries.
-#[tactic(none)]
 fn plan_of(
     alloc: Global,
     job: &Job,
     moment: Moment,
     source: &[Entry],
     target: &[Entry],
-) -> Result<Plan, PlanErr>
+) -> Result<Plan, NoMemory>
     requires ours { are_in_order source.now ≡ true }
     requires theirs { are_in_order target.now ≡ true }
+    requires built { are_listed_built job.now source.now target.now ≡ true }
 
-    ensures plan { (ours theirs : Tree) → AreRootOf ours source.now → AreRootOf theirs target.now → IfOk result (IsPlanOf (start_of job.now ours theirs)) }
-    ensures moment { IfOk result (λ plan. plan.moment ≡ moment) }
-    ensures stride { IfOk result (λ plan. plan.stride ≡ 0) }
-    ensures bytes { IfOk result (λ plan. plan.with_bytes ≡ job.now.copy.data_bytes) }
-    ensures rising { IfOk result (λ plan. are_rising plan.items ≡ true) }
-    ensures roots { IfOk result (λ plan. All (λ item. is_in_root (key_of item.path) ≡ true) plan.items) }
-    ensures small { IfOk result (λ plan. All (λ item. is_copy item.act ≡ true → item.facts.size ≤ 2 ^ 40) plan.items) }
-    ensures built { OnOk result (are_listed_built source.now target.now ≡ true) }
-    ensures not_built { IfErr result (λ e. e ≡ PlanErr.NotBuilt → are_listed_built source.now target.now ≡ false) }
-    ensures listed { IfErr result (λ e. (side : Side) → e ≡ PlanErr.ListFault side → ⊥) }
+    ensures plan { (told : Told) → AreRootsOf told source.now target.now →
+        IfOk result (IsPlanOf (start_in job.now told)) }
+    ensures made { IfOk result (IsMadeFor job.now moment) }
 {
-    if are_built(source, target) {
-        match decide_all(alloc, job, moment, source, target) {
-            Ok(items) => Ok(Plan {
-                job: Text::empty(alloc),
-                moment,
-                stride: 0,
-                with_bytes: job.copy.data_bytes,
-                items: Items::new(items),
-            }),
-            Err(_) => Err(PlanErr::NoMemory),
-        }
-    } else {
-        Err(PlanErr::NotBuilt)
+    match decide_all(alloc, job, moment, source, target) {
+        Ok(items) => Ok(Plan {
+            job: Text::empty(alloc),
+            moment,
+            stride: 0,
+            with_bytes: job.copy.data_bytes,
+            items: Items::new(items),
+        }),
+        Err(e) => Err(e),
     }
 }
 
 // The items of all keys at which one of the roots has a file.
-#[tactic(none)]
 fn decide_all(
     alloc: Global,
     job: &Job,
@@ -136,12 +121,10 @@ fn decide_all(
 ) -> Result<Vec<Item>, NoMemory>
     requires ours { are_in_order source.now ≡ true }
     requires theirs { are_in_order target.now ≡ true }
-    requires built { are_listed_built source.now target.now ≡ true }
+    requires built { are_listed_built job.now source.now target.now ≡ true }
 
-    ensures rising { IfOk result (λ items. are_rising items.items ≡ true) }
-    ensures items { IfOk result (λ items. (key : List (List ℕ)) → item_at items.items key ≡ item_from job.now moment (found_at (map found_of source.now) key) (found_at (map found_of target.now) key)) }
-    ensures roots { IfOk result (λ items. All (λ item. is_in_root (key_of item.path) ≡ true) items.items) }
-    ensures small { IfOk result (λ items. All (λ item. is_copy item.act ≡ true → item.facts.size ≤ 2 ^ 40) items.items) }
+    ensures { IfOk result (λ items. AreDecided job.now moment
+        (map found_of source.now) (map found_of target.now) items.items) }
 {
     match find_all(alloc, source) {
         Ok(source) => match find_all(alloc, target) {

@@ -1,3 +1,5 @@
+//! The lines of a report.
+
 ghost use Rattle.std.specs.Prelude.{◌≡◌, ◌-◌, ◌++◌, ◌∷◌, OnOk, IfOk, string_bytes, decimal, encode_utf8_all, flat_map, replicate};
 ghost use Rattle.rc_report.specs.Report.{class_tag, is_shown, left_in, path_text, right_in, row_line, shown_line, summary};
 
@@ -58,7 +60,8 @@ fn class_tag(class: Class) -> &'static str
 
 // Adds a row of the summary.
 fn push_row(alloc: Global, text: &mut String, name: &str, row: &Row) -> Result<(), AllocError>
-    ensures { OnOk result (string_bytes text.new ≡ string_bytes text.old ++ row_line name.now row.now) }
+    ensures { OnOk result
+        (string_bytes text.new ≡ string_bytes text.old ++ row_line name.now row.now) }
 {
     push_right(text, 7, name)?;
     text.push_str(" :")?;
@@ -74,7 +77,8 @@ fn push_row(alloc: Global, text: &mut String, name: &str, row: &Row) -> Result<(
 
 // Adds a number of a row.
 fn push_count(alloc: Global, text: &mut String, count: u128) -> Result<(), AllocError>
-    ensures { OnOk result (string_bytes text.new ≡ string_bytes text.old ++ right_in 10 (decimal count)) }
+    ensures { OnOk result
+        (string_bytes text.new ≡ string_bytes text.old ++ right_in 10 (decimal count)) }
 {
     push_right(text, 10, &count.to_string(alloc)?)
 }
@@ -94,7 +98,8 @@ fn push_path(line: &mut String, path: &Path) -> Result<(), AllocError>
 
 // Adds each name behind a `\`.
 fn push_below(line: &mut String, names: &[Name]) -> Result<(), AllocError>
-    ensures { OnOk result (string_bytes line.new ≡ string_bytes line.old ++ flat_map (λ next. 92 ∷ encode_utf8_all next) names.now) }
+    ensures { OnOk result (string_bytes line.new
+        ≡ string_bytes line.old ++ flat_map (λ next. 92 ∷ encode_utf8_all next) names.now) }
 {
     for name in names {
         line.push('\\')?;
@@ -105,7 +110,8 @@ fn push_below(line: &mut String, names: &[Name]) -> Result<(), AllocError>
 
 // Adds a text of ASCII characters at the left of so many places; a longer one is whole.
 fn push_left(line: &mut String, width: usize, text: &str) -> Result<(), AllocError>
-    ensures { OnOk result (string_bytes line.new ≡ string_bytes line.old ++ left_in width text.now) }
+    ensures { OnOk result
+        (string_bytes line.new ≡ string_bytes line.old ++ left_in width text.now) }
 {
     line.push_str(text)?;
     push_spaces(line, text.len(), width)
@@ -113,7 +119,8 @@ fn push_left(line: &mut String, width: usize, text: &str) -> Result<(), AllocErr
 
 // Adds a text of ASCII characters at the right of so many places; a longer one is whole.
 fn push_right(line: &mut String, width: usize, text: &str) -> Result<(), AllocError>
-    ensures { OnOk result (string_bytes line.new ≡ string_bytes line.old ++ right_in width text.now) }
+    ensures { OnOk result
+        (string_bytes line.new ≡ string_bytes line.old ++ right_in width text.now) }
 {
     push_spaces(line, text.len(), width)?;
     line.push_str(text)
@@ -121,7 +128,8 @@ fn push_right(line: &mut String, width: usize, text: &str) -> Result<(), AllocEr
 
 // Adds a space for each place from one up to another.
 fn push_spaces(line: &mut String, from: usize, to: usize) -> Result<(), AllocError>
-    ensures { OnOk result (string_bytes line.new ≡ string_bytes line.old ++ replicate (to - from) 32) }
+    ensures { OnOk result
+        (string_bytes line.new ≡ string_bytes line.old ++ replicate (to - from) 32) }
 {
     for _ in from..to {
         line.push(' ')?;

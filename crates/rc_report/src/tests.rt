@@ -1,3 +1,5 @@
+//! Reports of plans with every class and act, and what a sink that fails receives.
+
 ghost use Rattle.std.specs.Prelude.{true};
 
 use crate::{Row, Totals, bits, count_totals, report_to};

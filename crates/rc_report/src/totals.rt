@@ -1,3 +1,5 @@
+//! The totals of a plan, and its exit bits.
+
 ghost use Rattle.std.specs.Prelude.{◌≡◌, ◌+◌, ◌≤◌};
 ghost use Rattle.rc_report.specs.Report.{bit_where, bits_of, counts_in, has_source, is_in, row_of, share_of, sum_in, totals_of};
 

@@ -1,38 +1,22 @@
--- How a file fills up while it is copied piece by piece, and how the other entries stay.
+-- How a file fills up while it is copied piece by piece.
 use Rattle.std.proofs.Common.{◌≡◌, ℕ, ◌+◌, ◌≤◌, List, [], ◌∷◌, ◌++◌, Option, Some, None, length, take, drop, refl, sym, ap, subst, ◌∙◌, arith, length-append, length-drop}
-use Rattle.std.proofs.lemmas.List.{length-take, length-take-le, drop-drop}
+use Rattle.std.proofs.lemmas.List.{length-take, length-take-le, drop-drop, append-nil}
 use Rattle.std.proofs.Math.Seq.{take-append_seam, drop-append-add, take-add}
-use Rattle.std.proofs.lemmas.List.{append-nil}
-use Rattle.std.specs.FinMap.{get}
-use Rattle.std.specs.Prelude.{IsSomeAnd}
+use Rattle.std.specs.Prelude.{IsSomeAnd, option_map}
 use Rattle.rc_tree.specs.declared.attr.Kind.TheVariants.{File}
 use Rattle.rc_tree.specs.Tree.{Node}
-use Rattle.rc_volume.specs.declared.site.Side.{Side}
-use Rattle.rc_volume.specs.declared.site.Side.TheVariants.{Target}
 use Rattle.rc_volume.specs.Reading.{part_of}
-use Rattle.rc_volume.specs.Site.{Told, ChangesOnly, Goes, HasFile, written_at}
-
--- nothing changed
-pub ChangesOnly-same : (side : Side) (key : List (List ℕ)) (told : Told) → ChangesOnly side key told told
-ChangesOnly-same side key told = record { others = λ _ _. refl; other_tree = refl; notes = refl }
-
--- one change of an entry after another
-pub ChangesOnly-then : (side : Side) (key : List (List ℕ)) (a b c : Told) → ChangesOnly side key a b → ChangesOnly side key b c → ChangesOnly side key a c
-ChangesOnly-then side key a b c p q = record {
-  others = λ other apart. q.others other apart ∙ p.others other apart;
-  other_tree = q.other_tree ∙ p.other_tree;
-  notes = q.notes ∙ p.notes;
-}
+use Rattle.rc_volume.specs.Site.{Turns, written_at}
+use Rattle.rc_run.specs.Copying.{IsRefilled}
 
 -- so many of the bytes have been put, and the others are as they were
-pub record IsFilled (bytes : List ℕ) (size off : ℕ) (key : List (List ℕ)) (old new : Told) : Type 0 where
+pub record IsFilled (bytes : List ℕ) (size off : ℕ) (old now : Option Node) : Type 0 where
   pub node : Node
-  pub was : get old.target key ≡ Some node
+  pub was : old ≡ Some node
   pub is_file : node.kind ≡ File
   pub has_size : length node.bytes ≡ size
-  pub now : get new.target key ≡ Some (record node { bytes = take off bytes ++ drop off node.bytes })
+  pub is : now ≡ Some (record node { bytes = take off bytes ++ drop off node.bytes })
   pub whole : off ≤ length bytes
-  pub others : ChangesOnly Target key old new
 
 -- a write behind what is there already
 written_behind : (front piece rest : List ℕ) (off : ℕ) → length front ≡ off → take off (front ++ rest) ++ piece ++ drop (off + length piece) (front ++ rest) ≡ front ++ piece ++ drop (length piece) rest
@@ -46,42 +30,28 @@ filled_more bytes old off n le whole =
     ∙ ap (λ (rest : List ℕ). take off bytes ++ part_of off n bytes ++ rest) (ap (λ (k : ℕ). drop k (drop off old)) whole ∙ drop-drop n off old)
     ∙ ap (λ (front : List ℕ). front ++ drop (off + n) old) (sym (take-add off n bytes))
 
--- what stands at the key is that node
-has_file : (o : Option Node) (holds : Node → Type 0) → IsSomeAnd o (λ node. (node.kind ≡ File) × holds node) → (node : Node) × (o ≡ Some node) × (node.kind ≡ File) × holds node
-has_file None holds h = absurd h
-has_file (Some node) holds h = (node, refl, h.0, h.1)
+pub IsFilled-none : (bytes : List ℕ) (size : ℕ) (o : Option Node) → IsSomeAnd o (λ node. (node.kind ≡ File) × (length node.bytes ≡ size)) → IsFilled bytes size 0 o o
+IsFilled-none bytes size None h = absurd h
+IsFilled-none bytes size (Some node) h = record {
+  node = node;
+  was = refl;
+  is_file = h.0;
+  has_size = h.1;
+  is = refl;
+  whole = omega arith;
+}
 
-same_node : (a b : Node) → Some a ≡ Some b → a ≡ b
-same_node a b e = cc
-
-pub IsFilled-none : (bytes : List ℕ) (size : ℕ) (key : List (List ℕ)) (told : Told) → HasFile told.target key (λ node. length node.bytes ≡ size) → IsFilled bytes size 0 key told told
-IsFilled-none bytes size key told h =
-    let at = has_file (get told.target key) (λ node. length node.bytes ≡ size) h in
-    record {
-      node = at.0;
-      was = at.1;
-      is_file = at.2;
-      has_size = at.3;
-      now = at.1;
-      whole = omega arith;
-      others = ChangesOnly-same Target key told;
-    }
-
-pub IsFilled-more : (bytes : List ℕ) (size off n : ℕ) (key : List (List ℕ)) (old mid new : Told) → IsFilled bytes size off key old mid → length (part_of off n bytes) ≡ n → Goes (λ node after. after ≡ written_at off (part_of off n bytes) node) (get mid.target key) (get new.target key) → ChangesOnly Target key mid new → IsFilled bytes size (off + n) key old new
-IsFilled-more bytes size off n key old mid new f whole goes changes =
-    let filled = record f.node { bytes = take off bytes ++ drop off f.node.bytes } in
-    let same : goes.old ≡ filled = same_node goes.old filled (sym goes.was ∙ f.now) in
-    record {
-      node = f.node;
-      was = f.was;
-      is_file = f.is_file;
-      has_size = f.has_size;
-      now =
-          goes.is ∙ ap Some (goes.by ∙ ap (written_at off (part_of off n bytes)) same)
-          ∙ ap (λ (bs : List ℕ). Some (record f.node { bytes = bs })) (filled_more bytes f.node.bytes off n f.whole whole);
-      whole = omega (arith, length-take n (drop off bytes), length-drop off bytes);
-      others = ChangesOnly-then Target key old mid new f.others changes;
-    }
+pub IsFilled-more : (bytes : List ℕ) (size off n : ℕ) (old mid new : Option Node) → IsFilled bytes size off old mid → length (part_of off n bytes) ≡ n → new ≡ option_map (written_at off (part_of off n bytes)) mid → IsFilled bytes size (off + n) old new
+IsFilled-more bytes size off n old mid new f whole becomes = record {
+  node = f.node;
+  was = f.was;
+  is_file = f.is_file;
+  has_size = f.has_size;
+  is =
+      becomes ∙ ap (λ (o : Option Node). option_map (written_at off (part_of off n bytes)) o) f.is
+      ∙ ap (λ (bs : List ℕ). Some (record f.node { bytes = bs })) (filled_more bytes f.node.bytes off n f.whole whole);
+  whole = omega (arith, length-take n (drop off bytes), length-drop off bytes, whole, f.whole);
+}
 
 drop_all : (bytes : List ℕ) (size : ℕ) → length bytes ≡ size → drop size bytes ≡ []
 drop_all bytes size e = nothing_left (drop size bytes) (omega (arith, length-drop size bytes, e))
@@ -90,16 +60,39 @@ drop_all bytes size e = nothing_left (drop size bytes) (omega (arith, length-dro
     nothing_left [] l = refl
     nothing_left (x ∷ xs) l = absurd (omega (arith, l))
 
-pub IsFilled-all : (bytes : List ℕ) (size : ℕ) (key : List (List ℕ)) (old new : Told) → IsFilled bytes size size key old new → Goes (λ node after. after ≡ record node { bytes = part_of 0 size bytes }) (get old.target key) (get new.target key)
-IsFilled-all bytes size key old new f = record {
-  old = f.node;
-  new = record f.node { bytes = part_of 0 size bytes };
-  was = f.was;
-  is = f.now ∙ ap (λ (bs : List ℕ). Some (record f.node { bytes = bs })) (ap (λ (rest : List ℕ). take size bytes ++ rest) (drop_all f.node.bytes size f.has_size) ∙ append-nil (take size bytes));
-  by = refl;
-}
+-- all of them
+pub IsFilled-all : (bytes : List ℕ) (size : ℕ) (old new : Option Node) → IsFilled bytes size size old new → new ≡ option_map (λ (node : Node). record node { bytes = part_of 0 size bytes }) old
+IsFilled-all bytes size old new f =
+    f.is
+    ∙ ap (λ (bs : List ℕ). Some (record f.node { bytes = bs })) (ap (λ (rest : List ℕ). take size bytes ++ rest) (drop_all f.node.bytes size f.has_size) ∙ append-nil (take size bytes))
+    ∙ ap (λ (o : Option Node). option_map (λ (node : Node). record node { bytes = part_of 0 size bytes }) o) (sym f.was)
 
-pub IsFilled-file : (bytes : List ℕ) (size off n : ℕ) (key : List (List ℕ)) (old new : Told) → IsFilled bytes size off key old new → off + n ≤ size → HasFile new.target key (λ node. off + n ≤ length node.bytes)
-IsFilled-file bytes size off n key old new f fits =
-    let long : off + n ≤ length (take off bytes ++ drop off f.node.bytes) = omega (arith, length-append (take off bytes) (drop off f.node.bytes), length-take-le off bytes f.whole, length-drop off f.node.bytes, f.has_size) in
-    subst (λ (o : Option Node). IsSomeAnd o (λ node. (node.kind ≡ File) × (off + n ≤ length node.bytes))) (sym f.now) (f.is_file, long)
+long_enough : (bytes : List ℕ) (size off : ℕ) (node : Node) → length node.bytes ≡ size → off ≤ length bytes → off ≤ size → length (take off bytes ++ drop off node.bytes) ≡ size
+long_enough bytes size off node has_size whole fits =
+    omega (arith, length-append (take off bytes) (drop off node.bytes), length-take-le off bytes whole, length-drop off node.bytes, has_size)
+
+pub IsFilled-file : (bytes : List ℕ) (size off n : ℕ) (old new : Option Node) → IsFilled bytes size off old new → off + n ≤ size → IsSomeAnd new (λ node. (node.kind ≡ File) × (off + n ≤ length node.bytes))
+IsFilled-file bytes size off n old new f fits =
+    let long = long_enough bytes size off f.node f.has_size f.whole (omega arith) in
+    subst (λ (o : Option Node). IsSomeAnd o (λ node. (node.kind ≡ File) × (off + n ≤ length node.bytes))) (sym f.is) (f.is_file, omega (arith, long))
+
+-- a piece that is put badly leaves other bytes, and no more of them
+pub IsFilled-torn : (bytes : List ℕ) (size off : ℕ) (old mid new : Option Node) → IsFilled bytes size off old mid → off ≤ size → Turns (IsRefilled 0) mid new → Turns (IsRefilled size) old new
+IsFilled-torn bytes size off old mid new f fits t =
+    let filled = record f.node { bytes = take off bytes ++ drop off f.node.bytes } in
+    let same : t.before ≡ filled = same_some t.before filled (sym t.was ∙ f.is) in
+    let long = long_enough bytes size off f.node f.has_size f.whole fits in
+    let len : length t.before.bytes ≡ size = ap (λ (n : Node). length n.bytes) same ∙ long in
+    record {
+      before = f.node;
+      now = t.now;
+      was = f.was;
+      is = t.is;
+      by = record {
+        rest = t.by.rest ∙ ap (λ (n : Node). record n { bytes = t.now.bytes }) same;
+        no_longer = omega (arith, t.by.no_longer, len, f.has_size);
+      };
+    }
+  where
+    same_some : (x y : Node) → Some x ≡ Some y → x ≡ y
+    same_some x y e = cc

@@ -1,8 +1,7 @@
-mod AnswerLemmas
-mod CauseLemmas
-mod CopyLemmas
-mod GoalLemmas
-mod ItemLemmas
-mod NodeLemmas
-mod OutcomeLemmas
-mod WordLemmas
+pub mod CopyLemmas
+pub mod ItemLemmas
+pub mod NodeLemmas
+pub mod OutcomeLemmas
+pub mod RunLemmas
+pub mod WantLemmas
+pub mod WordLemmas

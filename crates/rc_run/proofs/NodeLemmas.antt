@@ -1,12 +1,12 @@
 -- What the steps of a copy make of one node.
-use Rattle.std.proofs.Common.{◌≡◌, ◌≢◌, ℕ, ◌≤◌, Bool, true, false, ◌&&◌, List, [], ◌∷◌, Option, Some, None, length, take, inl, inr, refl, sym, ap, subst, ◌∙◌, arith, lt-ltb}
+use Rattle.std.proofs.Common.{◌≡◌, ◌≢◌, ℕ, ◌-◌, ◌≤◌, Bool, true, false, ◌&&◌, List, [], ◌∷◌, Option, Some, None, Result, Ok, Err, length, take, inl, inr, refl, sym, ap, ◌∙◌, arith, lt-ltb, length-append}
 use Rattle.std.proofs.Math.Seq.{take-length}
 use Rattle.std.proofs.lemmas.Bool.{true≢false, cases_lt}
-use Rattle.std.specs.Prelude.{IsSomeAnd, nat_lt}
+use Rattle.std.proofs.lemmas.List.{length-replicate, length-take}
+use Rattle.std.specs.Prelude.{IsSomeAnd, ◌⊎◌, nat_lt, max, option_map, replicate, if◌then◌else◌}
 use Rattle.std.specs.FinMap.{get}
 use Rattle.rc_tree.specs.declared.attr.Kind.TheVariants.{File}
 use Rattle.rc_tree.specs.declared.props.Props.{Props}
-use Rattle.rc_tree.specs.Path.{last_name}
 use Rattle.rc_tree.specs.Tree.{Node, Tree}
 use Rattle.rc_class.specs.declared.class.Class.{Class}
 use Rattle.rc_class.specs.declared.class.Class.TheVariants.{Lonely, Extra, Newer, Older, Changed, Tweaked, Same, Mismatched}
@@ -18,76 +18,53 @@ use Rattle.rc_class.specs.Units.{is_copy}
 use Rattle.rc_filter.specs.Decided.{IsCopyable}
 use Rattle.rc_volume.specs.declared.want.Want.{Want}
 use Rattle.rc_volume.specs.Reading.{Opens, part_of}
-use Rattle.rc_volume.specs.Site.{Goes, ReadsFrom, bytes_in, fresh_file, resized}
-use Rattle.rc_run.specs.declared.copying.Terms.{Terms}
-use Rattle.rc_run.specs.Copying.{goal_under, is_lonely, IsBase}
-use Rattle.rc_run.specs.Goal.{is_read}
+use Rattle.rc_volume.specs.declared.site.SiteErr.{SiteErr}
+use Rattle.rc_volume.specs.declared.site.SiteErr.TheVariants as site_err
+use Rattle.rc_volume.specs.Site.{Puts, ReadsFrom, Resizes, Turns, bytes_in, no_props, resized, with_props}
+use Rattle.rc_run.specs.declared.copying.CopyErr.{CopyErr}
+use Rattle.rc_run.specs.declared.copying.Copying.{Copying}
+use Rattle.rc_run.specs.Copying.{begun_file, finished_props, goal_under, is_lonely, with_bytes_of, Copies, Fills, Finishes, GivesProps, IsBetween, IsHalfCopied, IsOnItsWay, IsRefilled}
+use Rattle.rc_run.specs.Reading.{is_read}
 
--- a file that stands is its own base
-pub standing : (moment : ℕ) (source target : Option Node) (item : Item) (props : Props) (size : ℕ) → IsCopyable item source target → item.class ≢ Lonely → ((node : Node) → target ≡ Some node → (props ≡ node.props) × (size ≡ length node.bytes)) → IsBase moment source target props size target
-standing moment source target item props size is other seen = at target (is.beside other) seen
-  where
-    at : (target : Option Node) → IsSomeAnd target (λ there. there.kind ≡ File) → ((node : Node) → target ≡ Some node → (props ≡ node.props) × (size ≡ length node.bytes)) → IsBase moment source target props size target
-    at None there seen = absurd there
-    at (Some node) file seen =
-        let same = seen node refl in
-        record {
-          node = node;
-          stands = refl;
-          is_file = file;
-          has_size = sym same.1;
-          base = λ from here. ap (λ (p : Props). record node { props = p }) same.0;
-        }
+same_some : (x y : Node) → Some x ≡ Some y → x ≡ y
+same_some x y e = cc
 
-pub not_lonely : (c : Class) → is_lonely c ≡ false → c ≢ Lonely
-not_lonely c other same = true≢false (ap is_lonely (sym same) ∙ other)
-
-pub lonely_so : (c : Class) → is_lonely c ≡ true → c ≡ Lonely
-lonely_so Lonely e = refl
-lonely_so Extra e = absurd (true≢false (sym e))
-lonely_so Newer e = absurd (true≢false (sym e))
-lonely_so Older e = absurd (true≢false (sym e))
-lonely_so Changed e = absurd (true≢false (sym e))
-lonely_so Tweaked e = absurd (true≢false (sym e))
-lonely_so Same e = absurd (true≢false (sym e))
-lonely_so Mismatched e = absurd (true≢false (sym e))
-
--- a file that was made is the base of a lonely copy
-pub made : (moment : ℕ) (source target now : Option Node) (item : Item) → IsCopyable item source target → item.class ≡ Lonely → now ≡ Some (fresh_file (last_name item.path)) → IsBase moment source target (fresh_props archive_alone moment) 0 now
-made moment source target now item is lonely here = record {
-  node = fresh_file (last_name item.path);
-  stands = here;
-  is_file = refl;
-  has_size = refl;
-  base = λ from stands.
-      let same : is.node ≡ from = same_some is.node from (sym is.stands ∙ stands) in
-      ap (λ (name : List ℕ). fresh_base name) (is.spelled ∙ ap (λ (n : Node). n.spelling) same)
-      ∙ ap (base_file moment from) (sym (is.lonely lonely));
-}
-  where
-    same_some : (x y : Node) → Some x ≡ Some y → x ≡ y
-    same_some x y e = cc
-
-    fresh_base : List ℕ → Node
-    fresh_base name = record { spelling = name; kind = File; bytes = []; props = fresh_props archive_alone moment }
+-- Bytes
 
 -- brought to its length and filled, a file has the source's bytes
-pub given : (with_bytes : Bool) (source bytes : List ℕ) (size : ℕ) (before mid now : Option Node) → with_bytes ≡ true → part_of 0 size bytes ≡ source → Goes (λ node after. after ≡ resized size node) before mid → Goes (λ node after. after ≡ record node { bytes = part_of 0 size bytes }) mid now → Goes (λ node after. after ≡ record node { bytes = picked with_bytes source node.bytes }) before now
+pub given : (with_bytes : Bool) (source bytes : List ℕ) (size : ℕ) (before mid now : Option Node) → with_bytes ≡ true → part_of 0 size bytes ≡ source → mid ≡ option_map {T = Node} (resized size) before → now ≡ option_map (λ (node : Node). record node { bytes = part_of 0 size bytes }) mid → now ≡ option_map (with_bytes_of with_bytes source) before
 given with_bytes source bytes size before mid now flagged whole first second =
-    let same : second.old ≡ resized size first.old = same_some second.old (resized size first.old) (sym second.was ∙ first.is ∙ ap Some first.by) in
-    record {
-      old = first.old;
-      new = record first.old { bytes = picked with_bytes source first.old.bytes };
-      was = first.was;
-      is =
-          second.is ∙ ap Some second.by
-          ∙ ap (λ (n : Node). Some (record n { bytes = part_of 0 size bytes })) same
-          ∙ ap (λ (bs : List ℕ). Some (record first.old { bytes = bs })) (whole ∙ ap (λ b. picked b source first.old.bytes) (sym flagged));
-      by = refl;
-    }
+    second ∙ ap (λ (o : Option Node). option_map (λ (node : Node). record node { bytes = part_of 0 size bytes }) o) first ∙ at before
   where
-    same_some : (x y : Node) → Some x ≡ Some y → x ≡ y
-    same_some x y e = cc
+    at : (o : Option Node) → option_map (λ (node : Node). record node { bytes = part_of 0 size bytes }) (option_map (resized size) o) ≡ option_map (with_bytes_of with_bytes source) o
+    at None = refl
+    at (Some node) =
+        ap (λ (bs : List ℕ). Some (record node { bytes = bs })) (whole ∙ ap (λ b. picked b source node.bytes) (sym flagged))
+
+length-resized : (size : ℕ) (node : Node) → length (resized size node).bytes ≡ size
+length-resized size node =
+    length-append (take size node.bytes) (replicate (size - length node.bytes) 0)
+    ∙ (let a = length-take size node.bytes in let b = length-replicate {A = ℕ} (size - length node.bytes) 0 in omega (arith, a, b))
+
+-- a length that was half changed leaves other bytes
+pub refilled_after : (size : ℕ) (before mid now : Option Node) → mid ≡ option_map (resized size) before → Turns (IsRefilled size) mid now → Turns (IsRefilled size) before now
+refilled_after size None mid now first t = absurd (none_some t.before (sym first ∙ t.was))
+  where
+    none_some : (x : Node) → None ≡ Some x → ⊥
+    none_some x e = cc
+refilled_after size (Some node) mid now first t =
+    let same : t.before ≡ resized size node = same_some t.before (resized size node) (sym t.was ∙ first) in
+    let len : length t.before.bytes ≡ size = ap (λ (n : Node). length n.bytes) same ∙ length-resized size node in
+    record {
+      before = node;
+      now = t.now;
+      was = refl;
+      is = t.is;
+      by = record {
+        rest = t.by.rest ∙ ap (λ (n : Node). record n { bytes = t.now.bytes }) same;
+        no_longer = omega (arith, t.by.no_longer, len);
+      };
+    }
 
 both : (a b c : Bool) → a ≡ true → b ≡ true → c ≡ true → a && (b && c) ≡ true
 both a b c e f g = ap (λ x. x && (b && c)) e ∙ ap (λ x. x && c) f ∙ g
@@ -108,49 +85,266 @@ read_whole source wants bytes key with_bytes item flagged copied opens reads lon
           ∙ sym (no_bytes (bytes_in (get source key)) (omega (arith, long, none)))
     ]
 
--- the copy of a file on its base
-pub copied_so : (terms : Terms) (item : Item) (source target : Option Node) (props : Props) (size : ℕ) (before mid now : Option Node) → IsCopyable item source target → is_copy item.act ≡ true → IsBase terms.moment source target props size before → Goes (λ node after. after ≡ record node { bytes = picked terms.with_bytes (bytes_in source) node.bytes }) before mid → ((from : Node) → source ≡ Some from → Goes (λ node after. after ≡ record node { props = copied_props terms.rules from.props props }) mid now) → now ≡ goal_under terms (Some item) source target
-copied_so terms item source target props size before mid now is copied base first second =
-    let from = is.node in
-    let end = second from is.stands in
-    let old : first.old ≡ base.node = same_some first.old base.node (sym first.was ∙ base.stands) in
-    let filled = record base.node { bytes = picked terms.with_bytes (bytes_in source) base.node.bytes } in
-    let same : end.old ≡ filled = same_some end.old filled (sym end.was ∙ first.is ∙ ap Some (first.by ∙ ap (λ (n : Node). record n { bytes = picked terms.with_bytes (bytes_in source) n.bytes }) old)) in
-    let whole : bytes_in source ≡ from.bytes = ap bytes_in is.stands in
-    end.is ∙ ap Some (end.by ∙ ap (λ (n : Node). record n { props = copied_props terms.rules from.props props }) same)
-    ∙ ap (λ (bs : List ℕ). Some (record base.node { bytes = picked terms.with_bytes bs base.node.bytes; props = copied_props terms.rules from.props props })) whole
-    ∙ ap (λ (n : Node). Some (copied_file terms.rules terms.with_bytes from n)) (base.base from is.stands)
-    ∙ sym (goal_of_copy item.act copied)
-    ∙ ap (λ o. goal_under terms (Some item) o target) (sym is.stands)
+-- The copy of one file
+
+lonely_if : (c : Class) → is_lonely c ≡ true → c ≡ Lonely
+lonely_if Lonely e = refl
+lonely_if Extra e = absurd (true≢false (sym e))
+lonely_if Newer e = absurd (true≢false (sym e))
+lonely_if Older e = absurd (true≢false (sym e))
+lonely_if Changed e = absurd (true≢false (sym e))
+lonely_if Tweaked e = absurd (true≢false (sym e))
+lonely_if Same e = absurd (true≢false (sym e))
+lonely_if Mismatched e = absurd (true≢false (sym e))
+
+lonely_so : (c : Class) → c ≢ Lonely → is_lonely c ≡ false
+lonely_so Lonely other = absurd (other refl)
+lonely_so Extra other = refl
+lonely_so Newer other = refl
+lonely_so Older other = refl
+lonely_so Changed other = refl
+lonely_so Tweaked other = refl
+lonely_so Same other = refl
+lonely_so Mismatched other = refl
+
+goal_of_copy : (copying : Copying) (act : Act) (from : Node) (target : Option Node) → is_copy act ≡ true → goal_of_act copying.rules copying.with_bytes copying.moment act from target ≡ Some (copied_file copying.rules copying.with_bytes from (base_file copying.moment from target))
+goal_of_copy copying act.Copy from target e = refl
+goal_of_copy copying act.Make from target e = absurd (true≢false (sym e))
+goal_of_copy copying act.Touch from target e = absurd (true≢false (sym e))
+goal_of_copy copying act.Fix from target e = absurd (true≢false (sym e))
+goal_of_copy copying act.Purge from target e = absurd (true≢false (sym e))
+goal_of_copy copying act.Extra from target e = absurd (true≢false (sym e))
+goal_of_copy copying act.Mismatch from target e = absurd (true≢false (sym e))
+goal_of_copy copying (act.Keep reason) from target e = absurd (true≢false (sym e))
+
+-- a file as a copy leaves it
+abbrev pub copied_on : Copying → Item → Node → Node → Node
+copied_on copying item from begun =
+    record (with_bytes_of copying.with_bytes from.bytes begun) { props = finished_props copying item from begun }
+
+-- is the goal
+pub copied_goal : (copying : Copying) (item : Item) (source target : Option Node) (is : IsCopyable item source target) → is_copy item.act ≡ true → Some (copied_on copying item is.node (begun_file item.path target)) ≡ goal_under copying (Some item) source target
+copied_goal copying item source target is copied =
+    at target is.lonely is.beside ∙ sym (goal_of_copy copying item.act is.node target copied)
+    ∙ ap (λ (o : Option Node). goal_under copying (Some item) o target) (sym is.stands)
   where
-    same_some : (x y : Node) → Some x ≡ Some y → x ≡ y
-    same_some x y e = cc
+    some_none : (x : Node) → Some x ≡ None → ⊥
+    some_none x e = cc
 
-    goal_of_copy : (act : Act) → is_copy act ≡ true → goal_of_act terms.rules terms.with_bytes terms.moment act is.node target ≡ Some (copied_file terms.rules terms.with_bytes is.node (base_file terms.moment is.node target))
-    goal_of_copy act.Copy e = refl
-    goal_of_copy act.Make e = absurd (true≢false (sym e))
-    goal_of_copy act.Touch e = absurd (true≢false (sym e))
-    goal_of_copy act.Fix e = absurd (true≢false (sym e))
-    goal_of_copy act.Purge e = absurd (true≢false (sym e))
-    goal_of_copy act.Extra e = absurd (true≢false (sym e))
-    goal_of_copy act.Mismatch e = absurd (true≢false (sym e))
-    goal_of_copy (act.Keep reason) e = absurd (true≢false (sym e))
+    lonely_or : (b : Bool) → is_lonely item.class ≡ b → (item.class ≢ Lonely → ⊥) → is_lonely item.class ≡ true
+    lonely_or true e h = e
+    lonely_or false e h = absurd (h (λ same. true≢false (sym (ap is_lonely same) ∙ e)))
 
--- where a base stands a file does
-pub base_stands : (moment : ℕ) (source target : Option Node) (props : Props) (size : ℕ) (now : Option Node) → IsBase moment source target props size now → IsSomeAnd now (λ node. (node.kind ≡ File) × (length node.bytes ≡ size))
-base_stands moment source target props size now base =
-    subst (λ (o : Option Node). IsSomeAnd o (λ node. (node.kind ≡ File) × (length node.bytes ≡ size))) (sym base.stands) (base.is_file, base.has_size)
+    lonely_copy : List ℕ → Bool → Node
+    lonely_copy name b = record {
+      spelling = name;
+      kind = File;
+      bytes = picked copying.with_bytes is.node.bytes [];
+      props = copied_props copying.rules is.node.props (if b then fresh_props archive_alone copying.moment else no_props);
+    }
 
--- and it stands with its bytes
-pub filled_stands : (moment : ℕ) (source target : Option Node) (props : Props) (size : ℕ) (before now : Option Node) (with_bytes : Bool) (bytes : List ℕ) → IsBase moment source target props size before → Goes (λ node after. after ≡ record node { bytes = picked with_bytes bytes node.bytes }) before now → IsSomeAnd now (λ node. (node.kind ≡ File) × (Unit {0}))
-filled_stands moment source target props size before now with_bytes bytes base goes =
-    let old : goes.old ≡ base.node = same_some goes.old base.node (sym goes.was ∙ base.stands) in
-    let kind : goes.new.kind ≡ File = ap (λ (n : Node). n.kind) goes.by ∙ ap (λ (n : Node). n.kind) old ∙ base.is_file in
-    subst (λ (o : Option Node). IsSomeAnd o (λ node. (node.kind ≡ File) × (Unit {0}))) (sym goes.is) (kind, tt)
+    copy_over : Node → Bool → Node
+    copy_over there b = record there {
+      bytes = picked copying.with_bytes is.node.bytes there.bytes;
+      props = copied_props copying.rules is.node.props (if b then fresh_props archive_alone copying.moment else there.props);
+    }
+
+    at : (t : Option Node) → (item.class ≡ Lonely → t ≡ None) → (item.class ≢ Lonely → IsSomeAnd t (λ there. there.kind ≡ File)) → Some (copied_on copying item is.node (begun_file item.path t)) ≡ Some (copied_file copying.rules copying.with_bytes is.node (base_file copying.moment is.node t))
+    at None lonely beside =
+        ap (λ (name : List ℕ). Some (lonely_copy name (is_lonely item.class))) is.spelled
+        ∙ ap (λ (b : Bool). Some (lonely_copy is.node.spelling b)) (lonely_or (is_lonely item.class) refl beside)
+    at (Some there) lonely beside =
+        ap (λ (b : Bool). Some (copy_over there b)) (lonely_so item.class (λ same. some_none there (lonely same)))
+
+pub filled_is : (copying : Copying) (item : Item) (source target begun filled : Option Node) (is : IsCopyable item source target) → begun ≡ Some (begun_file item.path target) → filled ≡ option_map (with_bytes_of copying.with_bytes (bytes_in source)) begun → filled ≡ Some (with_bytes_of copying.with_bytes is.node.bytes (begun_file item.path target))
+filled_is copying item source target begun filled is first second =
+    second ∙ ap (λ (o : Option Node). option_map (with_bytes_of copying.with_bytes (bytes_in source)) o) first
+    ∙ ap (λ (o : Option Node). Some (with_bytes_of copying.with_bytes (bytes_in o) (begun_file item.path target))) is.stands
+
+-- the copy of a file is done
+pub copied_so : (copying : Copying) (item : Item) (source target begun filled now : Option Node) (is : IsCopyable item source target) → is_copy item.act ≡ true → begun ≡ Some (begun_file item.path target) → filled ≡ option_map (with_bytes_of copying.with_bytes (bytes_in source)) begun → now ≡ option_map (λ (node : Node). with_props (finished_props copying item is.node node) node) filled → now ≡ goal_under copying (Some item) source target
+copied_so copying item source target begun filled now is copied first second third =
+    third
+    ∙ ap (λ (o : Option Node). option_map (λ (node : Node). with_props (finished_props copying item is.node node) node) o) (filled_is copying item source target begun filled is first second)
+    ∙ copied_goal copying item source target is copied
+
+-- On its way
+
+-- what a copy begins with is a file
+pub begun_kind : (item : Item) (source target : Option Node) → IsCopyable item source target → (begun_file item.path target).kind ≡ File
+begun_kind item source None is = refl
+begun_kind item source (Some there) is =
+    kind_if (is_lonely item.class) refl
   where
-    same_some : (x y : Node) → Some x ≡ Some y → x ≡ y
-    same_some x y e = cc
+    some_none : Some there ≡ None → ⊥
+    some_none e = cc
+
+    kind_if : (b : Bool) → is_lonely item.class ≡ b → there.kind ≡ File
+    kind_if true e = absurd (some_none (is.lonely (lonely_if item.class e)))
+    kind_if false e = is.beside (λ same. true≢false (sym (ap is_lonely same) ∙ e))
+
+-- a file of the begun one's spelling and properties, with other bytes where bytes go along
+half_filled : (copying : Copying) (item : Item) (source target : Option Node) (node : Node) → IsCopyable item source target → node ≡ record (begun_file item.path target) { bytes = node.bytes } → (copying.with_bytes ≡ false → node.bytes ≡ (begun_file item.path target).bytes) → length node.bytes ≤ max (length (begun_file item.path target).bytes) item.facts.size → IsHalfCopied copying item source target node
+half_filled copying item source target node is rest bytes no_longer = record {
+  is_file = ap (λ (n : Node). n.kind) rest ∙ begun_kind item source target is;
+  spelling = ap (λ (n : Node). n.spelling) rest;
+  bytes = bytes;
+  no_longer = no_longer;
+  props = inl (ap (λ (n : Node). n.props) rest);
+}
+
+-- a copy that has begun
+pub begun_way : (copying : Copying) (item : Item) (source target now : Option Node) → IsCopyable item source target → now ≡ Some (begun_file item.path target) → IsOnItsWay copying item source target now
+begun_way copying item source target now is here = record {
+  node = begun_file item.path target;
+  stands = here;
+  half = half_filled copying item source target (begun_file item.path target) is refl (λ _. refl) (omega arith);
+}
+
+-- and whose bytes are going along
+pub torn_way : (copying : Copying) (item : Item) (source target begun now : Option Node) → IsCopyable item source target → copying.with_bytes ≡ true → begun ≡ Some (begun_file item.path target) → Turns (IsRefilled item.facts.size) begun now → IsOnItsWay copying item source target now
+torn_way copying item source target begun now is flagged first t =
+    let same : t.before ≡ begun_file item.path target = same_some t.before (begun_file item.path target) (sym t.was ∙ first) in
+    record {
+      node = t.now;
+      stands = t.is;
+      half =
+          half_filled copying item source target t.now is (t.by.rest ∙ ap (λ (n : Node). record n { bytes = t.now.bytes }) same)
+          (λ off. absurd (true≢false (sym flagged ∙ off)))
+          (let len = ap (λ (n : Node). length n.bytes) same in omega (arith, t.by.no_longer, len));
+    }
 
 -- the source's file has the bytes that the item counts
 pub sized : (source target : Option Node) (item : Item) → IsCopyable item source target → length (bytes_in source) ≡ item.facts.size
 sized source target item is = ap (λ o. length (bytes_in o)) is.stands ∙ sym (ap (λ facts. facts.size) is.facts)
+
+picked_off : (b : Bool) (source old : List ℕ) → b ≡ false → picked b source old ≡ old
+picked_off b source old e = ap (λ x. picked x source old) e
+
+picked_length : (b : Bool) (source old : List ℕ) → length (picked b source old) ≤ max (length old) (length source)
+picked_length true source old = omega arith
+picked_length false source old = omega arith
+
+-- whose bytes have gone along
+pub filled_way : (copying : Copying) (item : Item) (source target now : Option Node) (is : IsCopyable item source target) → now ≡ Some (with_bytes_of copying.with_bytes is.node.bytes (begun_file item.path target)) → IsOnItsWay copying item source target now
+filled_way copying item source target now is here =
+    let begun = begun_file item.path target in
+    let bytes = picked copying.with_bytes is.node.bytes begun.bytes in
+    let fits : length bytes ≤ max (length begun.bytes) (length is.node.bytes) = picked_length copying.with_bytes is.node.bytes begun.bytes in
+    let size : item.facts.size ≡ length is.node.bytes = ap (λ facts. facts.size) is.facts in
+    record {
+      node = with_bytes_of copying.with_bytes is.node.bytes begun;
+      stands = here;
+      half =
+          half_filled copying item source target (with_bytes_of copying.with_bytes is.node.bytes begun) is refl
+          (λ off. picked_off copying.with_bytes is.node.bytes begun.bytes off) (omega (arith, fits, size));
+    }
+
+-- and that is done
+pub goal_way : (copying : Copying) (item : Item) (source target now : Option Node) → IsCopyable item source target → is_copy item.act ≡ true → now ≡ goal_under copying (Some item) source target → IsOnItsWay copying item source target now
+goal_way copying item source target now is copied here =
+    let begun = begun_file item.path target in
+    let done = copied_on copying item is.node begun in
+    let reached : goal_under copying (Some item) source target ≡ Some done = sym (copied_goal copying item source target is copied) in
+    let bytes = picked copying.with_bytes is.node.bytes begun.bytes in
+    let fits : length bytes ≤ max (length begun.bytes) (length is.node.bytes) = picked_length copying.with_bytes is.node.bytes begun.bytes in
+    let size : item.facts.size ≡ length is.node.bytes = ap (λ facts. facts.size) is.facts in
+    record {
+      node = done;
+      stands = here ∙ reached;
+      half = record {
+        is_file = begun_kind item source target is;
+        spelling = refl;
+        bytes = λ off. picked_off copying.with_bytes is.node.bytes begun.bytes off;
+        no_longer = omega (arith, fits, size);
+        props = inr (ap (λ (o : Option Node). option_map (λ goal. goal.props) o) reached);
+      };
+    }
+
+-- Failed calls
+
+-- nothing was put
+pub stays_refilled : (size : ℕ) (holds : Node → Type 0) (old new : Option Node) → IsSomeAnd old holds → new ≡ old → Turns (IsRefilled size) old new
+stays_refilled size holds None new h same = absurd h
+stays_refilled size holds (Some node) new h same = record {
+  before = node;
+  now = node;
+  was = refl;
+  is = same;
+  by = record { rest = refl; no_longer = omega arith };
+}
+
+-- a length that could not be set
+pub resize_failed : (T : Type 0) (e : SiteErr) (len : ℕ) (holds : Node → Type 0) (old new : Option Node) → IsSomeAnd old holds → Resizes {T = T} (Err e) len old new → Turns (IsRefilled len) old new
+resize_failed T site_err.Failed len holds old new h t = record {
+  before = t.before;
+  now = t.now;
+  was = t.was;
+  is = t.is;
+  by = record { rest = t.by.rest; no_longer = t.by.no_longer };
+}
+resize_failed T site_err.NoMemory len holds old new h same = stays_refilled len holds old new h same
+
+-- bytes that could not be put
+pub put_failed : (T : Type 0) (e : SiteErr) (off : ℕ) (bytes : List ℕ) (holds : Node → Type 0) (old new : Option Node) → IsSomeAnd old holds → Puts {T = T} (Err e) off bytes old new → Turns (IsRefilled 0) old new
+put_failed T site_err.Failed off bytes holds old new h t = record {
+  before = t.before;
+  now = t.now;
+  was = t.was;
+  is = t.is;
+  by = record { rest = t.by.rest; no_longer = omega (arith, t.by.size) };
+}
+put_failed T site_err.NoMemory off bytes holds old new h same = stays_refilled 0 holds old new h same
+
+-- Properties
+
+props_over : (copying : Copying) (item : Item) (from : Node) (props : Props) (old : Option Node) → ((node : Node) → old ≡ Some node → finished_props copying item from node ≡ props) → option_map (with_props props) old ≡ option_map (λ node. with_props (finished_props copying item from node) node) old
+props_over copying item from props None same = refl
+props_over copying item from props (Some node) same = ap (λ (p : Props). Some (with_props p node)) (sym (same node refl))
+
+-- properties that were given are those of a copy
+pub finishes_so : {T : Type 0} (result : Result T CopyErr) (copying : Copying) (item : Item) (from : Node) (props : Props) (old new : Option Node) → ((node : Node) → old ≡ Some node → finished_props copying item from node ≡ props) → GivesProps result props old new → Finishes result copying item from old new
+finishes_so (Ok x) copying item from props old new same h = h ∙ props_over copying item from props old same
+finishes_so (Err e) copying item from props old new same (inl h) = inl h
+finishes_so (Err e) copying item from props old new same (inr h) = inr (h ∙ props_over copying item from props old same)
+
+-- of a lonely copy, and of another
+pub lonely_props : (copying : Copying) (item : Item) (from node : Node) (source : Props) → is_lonely item.class ≡ true → from.props ≡ source → finished_props copying item from node ≡ copied_props copying.rules source (fresh_props archive_alone copying.moment)
+lonely_props copying item from node source lonely same =
+    ap (λ (b : Bool). copied_props copying.rules from.props (if b then fresh_props archive_alone copying.moment else node.props)) lonely
+    ∙ ap (λ (p : Props). copied_props copying.rules p (fresh_props archive_alone copying.moment)) same
+
+pub standing_props : (copying : Copying) (item : Item) (from node : Node) (source old : Props) → is_lonely item.class ≡ false → from.props ≡ source → node.props ≡ old → finished_props copying item from node ≡ copied_props copying.rules source old
+standing_props copying item from node source old other same props =
+    ap (λ (b : Bool). copied_props copying.rules from.props (if b then fresh_props archive_alone copying.moment else node.props)) other
+    ∙ ap (λ (p : Props). copied_props copying.rules p node.props) same
+    ∙ ap (λ (p : Props). copied_props copying.rules source p) props
+
+-- what was seen of a node are its properties
+pub same_props : (node : Node) (o : Option Node) (props : Props) → o ≡ Some node → Some props ≡ option_map (λ (n : Node). n.props) o → node.props ≡ props
+same_props node o props here seen = once node.props props (sym (seen ∙ ap (λ (p : Option Node). option_map (λ (n : Node). n.props) p) here))
+  where
+    once : (x y : Props) → Some x ≡ Some y → x ≡ y
+    once x y e = cc
+
+-- Steps of a copy, by what the last one answers
+
+-- bytes that go into a file of their length
+pub fills_so : {T : Type 0} (result : Result T CopyErr) (with_bytes : Bool) (source bytes : List ℕ) (size : ℕ) (before mid now : Option Node) → with_bytes ≡ true → part_of 0 size bytes ≡ source → mid ≡ option_map (resized size) before → Fills result (λ (node : Node). record node { bytes = part_of 0 size bytes }) size mid now → Fills result (with_bytes_of with_bytes source) size before now
+fills_so (Ok x) with_bytes source bytes size before mid now flagged whole first second = given with_bytes source bytes size before mid now flagged whole first second
+fills_so (Err e) with_bytes source bytes size before mid now flagged whole first second = refilled_after size before mid now first second
+
+-- properties behind the bytes
+pub copies_so : {T : Type 0} (result : Result T CopyErr) (copying : Copying) (item : Item) (source target begun filled now : Option Node) → IsCopyable item source target → is_copy item.act ≡ true → begun ≡ Some (begun_file item.path target) → filled ≡ option_map (with_bytes_of copying.with_bytes (bytes_in source)) begun → ((from : Node) → source ≡ Some from → Finishes result copying item from filled now) → Copies result copying item source target now
+copies_so (Ok x) copying item source target begun filled now is copied first second third =
+    copied_so copying item source target begun filled now is copied first second (third is.node is.stands)
+copies_so (Err e) copying item source target begun filled now is copied first second third = (copied, either (third is.node is.stands))
+  where
+    either : (now ≡ filled) ⊎ (now ≡ option_map (λ (node : Node). with_props (finished_props copying item is.node node) node) filled) → IsBetween copying item source target now
+    either (inl stays) = inr (filled_way copying item source target now is (stays ∙ filled_is copying item source target begun filled is first second))
+    either (inr done) = inr (goal_way copying item source target now is copied (copied_so copying item source target begun filled now is copied first second done))
+
+-- a copy that did not begin well
+pub begins_so : (copying : Copying) (item : Item) (source target now : Option Node) → IsCopyable item source target → (now ≡ target) ⊎ (now ≡ Some (begun_file item.path target)) → IsBetween copying item source target now
+begins_so copying item source target now is (inl stays) = inl stays
+begins_so copying item source target now is (inr here) = inr (begun_way copying item source target now is here)

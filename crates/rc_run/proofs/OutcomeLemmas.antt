@@ -12,7 +12,9 @@ use Rattle.rc_volume.specs.declared.site.Side.{Side}
 use Rattle.rc_volume.specs.declared.site.Side.TheVariants.{Source, Target}
 use Rattle.rc_run.specs.declared.outcome.Outcome.{Outcome}
 use Rattle.rc_run.specs.declared.outcome.Outcome.TheVariants.{Usage, NotYet, RootFault, ListFault, SiteFault}
-use Rattle.rc_run.specs.Outcome.{line_of, in_file, side_name}
+use Rattle.rc_run.specs.declared.outcome.Unbuilt.{Unbuilt}
+use Rattle.rc_run.specs.declared.outcome.Unbuilt.TheVariants.{Words, Trees, Record}
+use Rattle.rc_run.specs.Outcome.{line_of, in_file, side_name, unbuilt_number}
 
 -- the characters of a made text, from its bytes
 pub chars_made : {A E : Type 0} (r : Result (String A) E) (bs : List ℕ) (o p : Outcome) → o ≡ p → chars bs ≡ line_of p → IfOk r (λ line. string_bytes line ≡ bs) → IfOk r (λ line. chars (string_bytes line) ≡ line_of o)
@@ -27,8 +29,16 @@ IsAscii-from_test (b ∷ bs) h =
     IsAscii-cons b bs (ltb-true b 128 parts.0) (IsAscii-from_test bs parts.1)
 
 -- the lines that have one number or one side
-pub not_yet_chars : (what : ℕ) → what < 2 ^ 64 → chars (codes "ERROR: not built yet: " ++ decimal what) ≡ line_of (NotYet what)
-not_yet_chars what fits = chars-IsAscii _ (IsAscii-append (codes "ERROR: not built yet: ") (decimal what) (IsAscii-from_test (codes "ERROR: not built yet: ") refl) (IsAscii-decimal what fits))
+unbuilt_fits : (what : Unbuilt) → unbuilt_number what < 2 ^ 64
+unbuilt_fits Words = omega arith
+unbuilt_fits Trees = omega arith
+unbuilt_fits Record = omega arith
+
+pub not_yet_chars : (what : Unbuilt) → chars (codes "ERROR: not built yet: " ++ decimal (unbuilt_number what)) ≡ line_of (NotYet what)
+not_yet_chars what =
+    chars-IsAscii _
+    (IsAscii-append (codes "ERROR: not built yet: ") (decimal (unbuilt_number what))
+    (IsAscii-from_test (codes "ERROR: not built yet: ") refl) (IsAscii-decimal (unbuilt_number what) (unbuilt_fits what)))
 
 pub root_chars : (side : Side) → chars (codes "ERROR: " ++ codes "root" ++ codes " fault: " ++ side_name side) ≡ line_of (RootFault side)
 unfolding chars

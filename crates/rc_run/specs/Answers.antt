@@ -1,94 +1,78 @@
--- What each answer of a run says of its words and of the site at its start, in the order in which a run looks at them.
-use Rattle.std.specs.Prelude.{◌≡◌, ◌⊎◌, ℕ, Bool, true, false, List, [], ◌∷◌, Option, Some, None, if◌then◌else◌}
-use Rattle.rc_volume.specs.Site.{Told}
-use Rattle.rc_run.specs.declared.outcome.Outcome.{Outcome}
-use Rattle.rc_run.specs.declared.outcome.Outcome.TheVariants.{Done, Usage, NotYet, RootFault, ListFault, RecordFault, SiteFault, SinkFault, NoMemory}
-use Rattle.rc_run.specs.Outcome.{IsDone}
+-- What the answer of a run says of its job and of the site, at its start and at its end.
+use Rattle.std.specs.Prelude.{◌≡◌, ◌⊎◌, ℕ, ◌≤◌, ◌<◌, Bool, true, false, List, [], ◌∷◌, ◌++◌, Option, Some, None, Result, Ok, Err, if◌then◌else◌}
+use Rattle.rc_job.specs.declared.job.Job.{Job}
+use Rattle.rc_filter.specs.Acts.{rules_of}
+use Rattle.rc_plan.specs.Plan.{start_in}
 use Rattle.rc_plan.specs.Roots.{are_built}
-use Rattle.rc_run.specs.Words.{refusal_of}
+use Rattle.rc_report.specs.Report.{bits_of, report_of, totals_of}
+use Rattle.rc_volume.specs.Site.{Told}
+use Rattle.rc_volume.specs.Streams.{AppendsFront}
+use Rattle.rc_run.specs.declared.copying.Copying.{Copying}
+use Rattle.rc_run.specs.declared.outcome.Outcome.{Outcome}
+use Rattle.rc_run.specs.declared.outcome.Outcome.TheVariants.{NotYet, NoMemory}
+use Rattle.rc_run.specs.declared.outcome.Unbuilt.TheVariants as unbuilt
+use Rattle.rc_run.specs.declared.words.Request.{Request}
+use Rattle.rc_run.specs.Copying.{AreBetween}
+use Rattle.rc_run.specs.Goal.{IsMirrored, items_at}
+use Rattle.rc_run.specs.Outcome.{IsOrNoMemory, at_copies, at_limits, at_record, at_report, at_words, ending, finished, first_step, last_step, refused}
+
+-- At its start
 
 abbrev pub is_empty : {A : Type 0} → List A → Bool
 is_empty [] = true
 is_empty (x ∷ xs) = false
 
--- why a site is refused; nothing where it has no record and its trees are those that are mirrored so far
-abbrev pub site_refusal : Told → Option Outcome
-site_refusal told =
-    if is_empty told.notes then (if are_built told.source told.target then None else Some (NotYet 2)) else Some (NotYet 3)
-
--- words come before the site
-abbrev pub or_else : Option Outcome → Option Outcome → Option Outcome
-or_else (Some refusal) later = Some refusal
-or_else None later = later
+-- why a site is refused for a job; nothing where it has no record and its trees are those that are mirrored so far
+abbrev pub site_refusal : Job → Told → Option Outcome
+site_refusal job told =
+    if is_empty told.notes
+    then (if are_built job told then None else Some (NotYet unbuilt.Trees))
+    else Some (NotYet unbuilt.Record)
 
 -- why a run is refused; nothing where it is not
-abbrev pub start_refusal : List (List ℕ) → Told → Option Outcome
-start_refusal words told = or_else (refusal_of words) (site_refusal told)
+abbrev pub start_refusal : Result Request Outcome → Told → Option Outcome
+start_refusal (Ok request) told = site_refusal request.job told
+start_refusal (Err refusal) told = Some refusal
 
--- neither the words nor the site, where it tells, are refused
-abbrev pub Accepts : Type 0 → List (List ℕ) → Told → Type 0
-Accepts tells words told = (refusal_of words ≡ None) × (tells → site_refusal told ≡ None)
-
--- the words are refused so, or the site is, where it tells
-abbrev pub Refuses : Type 0 → List (List ℕ) → Told → Outcome → Type 0
-Refuses tells words told outcome =
-    (refusal_of words ≡ Some outcome) ⊎ ((refusal_of words ≡ None) × (tells → site_refusal told ≡ Some outcome))
-
-abbrev pub Answers : Type 0 → List (List ℕ) → Told → Outcome → Type 0
-Answers tells words told (Usage file place kind) = refusal_of words ≡ Some (Usage file place kind)
-Answers tells words told (NotYet what) = Refuses tells words told (NotYet what)
-Answers tells words told (RootFault side) = refusal_of words ≡ None
-Answers tells words told RecordFault = refusal_of words ≡ None
-Answers tells words told (ListFault side) = (refusal_of words ≡ None) × (tells → told.notes ≡ [])
-Answers tells words told (SiteFault side) = Accepts tells words told
-Answers tells words told SinkFault = Accepts tells words told
-Answers tells words told (Done bits moment) = Accepts tells words told
-Answers tells words told NoMemory = Unit {0}
-
--- the same of a run that is not done
-abbrev pub Stops : Type 0 → List (List ℕ) → Told → Outcome → Type 0
-Stops tells words told outcome = Answers tells words told outcome × (IsDone outcome → ⊥)
-
--- what is answered where a record is looked for
-abbrev pub IsRecordAnswer : Type 0 → Told → Outcome → Type 0
-IsRecordAnswer tells told (NotYet what) = (what ≡ 3) × (tells → is_empty told.notes ≡ false)
-IsRecordAnswer tells told RecordFault = Unit {0}
-IsRecordAnswer tells told (Done bits moment) = ⊥
-IsRecordAnswer tells told (Usage file place kind) = ⊥
-IsRecordAnswer tells told (RootFault side) = ⊥
-IsRecordAnswer tells told (ListFault side) = ⊥
-IsRecordAnswer tells told (SiteFault side) = ⊥
-IsRecordAnswer tells told SinkFault = ⊥
-IsRecordAnswer tells told NoMemory = ⊥
-
--- what is answered where the roots are listed
-abbrev pub IsTreesAnswer : Type 0 → Told → Outcome → Type 0
-IsTreesAnswer tells told (NotYet what) = (what ≡ 2) × (tells → are_built told.source told.target ≡ false)
-IsTreesAnswer tells told (ListFault side) = Unit {0}
-IsTreesAnswer tells told (Done bits moment) = ⊥
-IsTreesAnswer tells told (Usage file place kind) = ⊥
-IsTreesAnswer tells told (RootFault side) = ⊥
-IsTreesAnswer tells told RecordFault = ⊥
-IsTreesAnswer tells told (SiteFault side) = ⊥
-IsTreesAnswer tells told SinkFault = ⊥
-IsTreesAnswer tells told NoMemory = ⊥
+-- what an answer to words that are accepted says of the site, where it tells
+pub record Answers (tells : Bool) (job : Job) (told : Told) (outcome : Outcome) : Type 0 where
+  -- it is no refusal of words
+  pub behind_words : at_words < last_step (ending outcome)
+  -- a refusal is that of the site
+  pub refusal : (step : ℕ) → ending outcome ≡ refused step → tells ≡ true → site_refusal job told ≡ Some outcome
+  -- what comes behind the look at the record or at the trees says that they were accepted
+  pub no_record : at_record < first_step (ending outcome) → tells ≡ true → told.notes ≡ []
+  pub built : at_limits < first_step (ending outcome) → tells ≡ true → are_built job told ≡ true
 
 -- what a run for which nothing failed answers, but for want of memory: its refusal, or that it is done
 abbrev pub IsExpected : Option Outcome → Outcome → Type 0
-IsExpected expected NoMemory = Unit {0}
-IsExpected None (Done bits moment) = Unit {0}
-IsExpected None (Usage file place kind) = ⊥
-IsExpected None (NotYet what) = ⊥
-IsExpected None (RootFault side) = ⊥
-IsExpected None (ListFault side) = ⊥
-IsExpected None RecordFault = ⊥
-IsExpected None (SiteFault side) = ⊥
-IsExpected None SinkFault = ⊥
-IsExpected (Some refusal) (Done bits moment) = Done bits moment ≡ refusal
-IsExpected (Some refusal) (Usage file place kind) = Usage file place kind ≡ refusal
-IsExpected (Some refusal) (NotYet what) = NotYet what ≡ refusal
-IsExpected (Some refusal) (RootFault side) = RootFault side ≡ refusal
-IsExpected (Some refusal) (ListFault side) = ListFault side ≡ refusal
-IsExpected (Some refusal) RecordFault = RecordFault ≡ refusal
-IsExpected (Some refusal) (SiteFault side) = SiteFault side ≡ refusal
-IsExpected (Some refusal) SinkFault = SinkFault ≡ refusal
+IsExpected None outcome = (ending outcome ≡ finished) ⊎ (outcome ≡ NoMemory)
+IsExpected (Some refusal) outcome = IsOrNoMemory refusal outcome
+
+-- At its end
+
+-- what the copies of a job have in common
+abbrev pub copying_of : Job → ℕ → Copying
+copying_of job moment = record { rules = rules_of job; with_bytes = job.copy.data_bytes; moment = moment }
+
+-- what a run leaves of a site that tells, whatever it answers
+pub record Leaves (job : Job) (moment : ℕ) (start end : Told) (outcome : Outcome) : Type 0 where
+  -- behind the copies both trees are the goals
+  pub mirrored : at_report ≤ first_step (ending outcome) → IsMirrored (start_in job start) moment end
+  -- before them all is as it was
+  pub unchanged : last_step (ending outcome) < at_copies → end ≡ start
+  -- and else each key of the target is as it was, or its item copies a file that is on its way
+  pub between : AreBetween (copying_of job moment) (items_at job start moment) start end.target
+  pub source : end.source ≡ start.source
+  pub notes : end.notes ≡ start.notes
+
+-- what a run sends to its report, where site and sink tell
+pub record Sends (job : Job) (moment : ℕ) (start : Told) (outcome : Outcome) (old new : List ℕ) : Type 0 where
+  -- at Done the whole report
+  pub whole : ending outcome ≡ finished → new ≡ old ++ report_of (items_at job start moment)
+  -- and whatever is answered a front of it
+  pub front : AppendsFront old (report_of (items_at job start moment)) new
+
+-- the exit bits are those of the decided items
+abbrev pub AreBitsOf : Job → Told → ℕ → ℕ → Type 0
+AreBitsOf job start bits moment = bits ≡ bits_of (totals_of (items_at job start moment))

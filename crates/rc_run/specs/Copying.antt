@@ -1,26 +1,57 @@
--- What the steps of copying do to the target.
-use Rattle.std.specs.Prelude.{◌≡◌, ℕ, Bool, true, false, List, Option, Some, length}
+-- What the steps of copying do to the target, when they are done and when they end in a fault.
+use Rattle.std.specs.Prelude.{◌≡◌, ◌⊎◌, ℕ, ◌≤◌, Bool, true, false, max, List, ◌++◌, Option, Some, None, option_map, length, Result, Ok, Err, if◌then◌else◌}
 use Rattle.std.specs.FinMap.{get}
 use Rattle.rc_tree.specs.declared.attr.Kind.TheVariants.{File}
 use Rattle.rc_tree.specs.declared.props.Props.{Props}
-use Rattle.rc_tree.specs.Path.{key_of}
+use Rattle.rc_tree.specs.Path.{key_of, last_name}
 use Rattle.rc_tree.specs.Tree.{Node, Tree}
 use Rattle.rc_class.specs.declared.class.Class.{Class}
 use Rattle.rc_class.specs.declared.class.Class.TheVariants.{Lonely}
 use Rattle.rc_class.specs.declared.item.Item.{Item}
-use Rattle.rc_class.specs.Goal.{base_file, is_left, target_goal}
-use Rattle.rc_class.specs.Items.{item_at}
+use Rattle.rc_class.specs.Goal.{archive_alone, copied_props, fresh_props, is_left, picked, target_goal}
+use Rattle.rc_class.specs.Items.{are_rising, item_at}
 use Rattle.rc_class.specs.Units.{is_copy}
 use Rattle.rc_filter.specs.Decided.{IsCopyable}
-use Rattle.rc_run.specs.declared.copying.Terms.{Terms}
+use Rattle.rc_plan.specs.Plan.{AreInRoot, AreSmallCopies}
+use Rattle.rc_volume.specs.declared.site.Side.{Side}
+use Rattle.rc_volume.specs.declared.site.Side.TheVariants.{Target}
+use Rattle.rc_volume.specs.declared.site.SiteErr.{SiteErr}
+use Rattle.rc_volume.specs.declared.site.SiteErr.TheVariants as site_err
+use Rattle.rc_volume.specs.declared.want.Want.{Want}
+use Rattle.rc_volume.specs.Faults.{Cause, Counts, free, on, part_for}
+use Rattle.rc_volume.specs.Frames.{ChangesAt}
+use Rattle.rc_volume.specs.Site.{Change, Becomes, Comes, Maybe, Told, Turns, Seen, fresh_file, node_at, with_props}
+use Rattle.rc_run.specs.declared.copying.CopyErr.{CopyErr}
+use Rattle.rc_run.specs.declared.copying.CopyErr.TheVariants as copy_err
+use Rattle.rc_run.specs.declared.copying.Copying.{Copying}
+
+-- Goals
 
 -- what the target has in the end at the key of an item, where the two sides had this there
-abbrev pub goal_under : Terms → Option Item → Option Node → Option Node → Option Node
-goal_under terms item source target = target_goal terms.rules terms.with_bytes terms.moment item source target
+abbrev pub goal_under : Copying → Option Item → Option Node → Option Node → Option Node
+goal_under copying item source target = target_goal copying.rules copying.with_bytes copying.moment item source target
 
 -- what it has at a key once these items are done
-abbrev pub after_items : Terms → List Item → Tree → Tree → List (List ℕ) → Option Node
-after_items terms items source target key = goal_under terms (item_at items key) (get source key) (get target key)
+abbrev pub after_items : Copying → List Item → Tree → Tree → List (List ℕ) → Option Node
+after_items copying items source target key = goal_under copying (item_at items key) (get source key) (get target key)
+
+-- whether the target lacks what the source has
+abbrev pub is_lonely : Class → Bool
+is_lonely Lonely = true
+is_lonely _ = false
+
+-- the properties of a copy of one file over another, or of a fresh one
+abbrev pub finished_props : Copying → Item → Node → Node → Props
+finished_props copying item from node =
+    copied_props copying.rules from.props (if is_lonely item.class then fresh_props archive_alone copying.moment else node.props)
+
+-- Conditions
+
+-- items of keys in the root that rise, none of which copies more bytes than a file may have
+pub record AreRunnable (with_bytes : Bool) (items : List Item) : Type 0 where
+  pub rising : are_rising items ≡ true
+  pub roots : AreInRoot items
+  pub small : with_bytes ≡ true → AreSmallCopies items
 
 -- the two sides have what an item says: a file that can be copied, or anything where all is left as it is
 pub record IsDoable (item : Item) (source target : Option Node) : Type 0 where
@@ -31,15 +62,111 @@ pub record IsDoable (item : Item) (source target : Option Node) : Type 0 where
 abbrev pub IsDoableIn : Tree → Tree → Item → Type 0
 IsDoableIn source target item = IsDoable item (get source (key_of item.path)) (get target (key_of item.path))
 
--- whether the target lacks what the source has
-abbrev pub is_lonely : Class → Bool
-is_lonely Lonely = true
-is_lonely _ = false
+-- On the way
 
--- a file of this size stands, on which a copy is made as on one of these properties
-pub record IsBase (moment : ℕ) (source target : Option Node) (props : Props) (size : ℕ) (now : Option Node) : Type 0 where
+-- the file on which a copy goes on: the one that stands, or a fresh one as a site makes it
+abbrev pub begun_file : List (List ℕ) → Option Node → Node
+begun_file path (Some node) = node
+begun_file path None = fresh_file (last_name path)
+
+-- other bytes, no more than it had or than this size, and all else as it was
+pub record IsRefilled (size : ℕ) (old new : Node) : Type 0 where
+  pub rest : new ≡ record old { bytes = new.bytes }
+  pub no_longer : length new.bytes ≤ max (length old.bytes) size
+
+-- a file that is being copied: with its own bytes where bytes do not go along, and with its own properties or with those
+-- of the goal
+pub record IsHalfCopied (copying : Copying) (item : Item) (source old : Option Node) (node : Node) : Type 0 where
+  pub is_file : node.kind ≡ File
+  pub spelling : node.spelling ≡ (begun_file item.path old).spelling
+  pub bytes : copying.with_bytes ≡ false → node.bytes ≡ (begun_file item.path old).bytes
+  pub no_longer : length node.bytes ≤ max (length (begun_file item.path old).bytes) item.facts.size
+  pub props :
+      (node.props ≡ (begun_file item.path old).props)
+      ⊎ (option_map (λ goal. goal.props) (goal_under copying (Some item) source old) ≡ Some node.props)
+
+-- such a file stands there now
+pub record IsOnItsWay (copying : Copying) (item : Item) (source old now : Option Node) : Type 0 where
   pub node : Node
   pub stands : now ≡ Some node
-  pub is_file : node.kind ≡ File
-  pub has_size : length node.bytes ≡ size
-  pub base : (from : Node) → source ≡ Some from → record node { props = props } ≡ base_file moment from target
+  pub half : IsHalfCopied copying item source old node
+
+-- all is as it was, or the file is on its way
+abbrev pub IsBetween : Copying → Item → Option Node → Option Node → Option Node → Type 0
+IsBetween copying item source old now = (now ≡ old) ⊎ IsOnItsWay copying item source old now
+
+-- the file of an item of this key, which copies it, is on its way
+pub record IsChangedBy (copying : Copying) (items : List Item) (key : List (List ℕ)) (source old now : Option Node) : Type 0 where
+  pub item : Item
+  pub decided : item_at items key ≡ Some item
+  pub copies : is_copy item.act ≡ true
+  pub way : IsOnItsWay copying item source old now
+
+-- at each key of the target all is as it was, or an item changed it
+abbrev pub AreBetween : Copying → List Item → Told → Tree → Type 0
+AreBetween copying items start now =
+    (key : List (List ℕ)) →
+    (get now key ≡ get start.target key)
+    ⊎ IsChangedBy copying items key (get start.source key) (get start.target key) (get now key)
+
+-- What the answers of the steps say
+
+-- a fault comes only where a count rose
+abbrev pub copy_cause : {T : Type 0} → Result T CopyErr → Cause
+copy_cause (Ok value) = free
+copy_cause (Err (copy_err.Failed side)) = on (part_for side) 1
+copy_cause (Err copy_err.NoMemory) = free
+
+-- the error of a call of a site that failed so
+abbrev pub fault_of : SiteErr → Side → CopyErr
+fault_of site_err.Failed side = copy_err.Failed side
+fault_of site_err.NoMemory side = copy_err.NoMemory
+
+-- at most what stands at one key of the target changes
+abbrev pub ChangesTarget : Bool → List (List ℕ) → Cause → Seen → Seen → Type 0
+ChangesTarget tells key cause old new = ChangesAt tells Target key (λ _ _. Unit {0}) cause old new
+
+-- what stands there changes so
+abbrev pub OnTarget : List (List ℕ) → Change → Seen → Seen → Type 0
+OnTarget key change old new = change (node_at old.told Target key) (node_at new.told Target key)
+
+-- at Ok the goal stands there, and else a copy may be on its way
+abbrev pub Copies : {T : Type 0} → Result T CopyErr → Copying → Item → Option Node → Change
+Copies (Ok value) copying item source old new = new ≡ goal_under copying (Some item) source old
+Copies (Err e) copying item source old new = (is_copy item.act ≡ true) × IsBetween copying item source old new
+
+-- at Ok the length of the file is answered
+abbrev pub Begins : Result ℕ CopyErr → List (List ℕ) → Change
+Begins (Ok size) path old new = (new ≡ Some (begun_file path old)) × (length (begun_file path old).bytes ≡ size)
+Begins (Err e) path old new = Maybe (Comes (begun_file path old)) old new
+
+-- at Ok the bytes are so, and else others, no more than there were or than this size
+abbrev pub Fills : {T : Type 0} → Result T CopyErr → (Node → Node) → ℕ → Change
+Fills (Ok value) filled size = Becomes filled
+Fills (Err e) filled size = Turns (IsRefilled size)
+
+-- a file's bytes, where bytes go along
+abbrev pub with_bytes_of : Bool → List ℕ → Node → Node
+with_bytes_of with_bytes bytes node = record node { bytes = picked with_bytes bytes node.bytes }
+
+-- at Ok the properties are these, and else perhaps
+abbrev pub GivesProps : {T : Type 0} → Result T CopyErr → Props → Change
+GivesProps (Ok value) props = Becomes (with_props props)
+GivesProps (Err e) props = Maybe (Becomes (with_props props))
+
+-- the same of the properties of a copy
+abbrev pub Finishes : {T : Type 0} → Result T CopyErr → Copying → Item → Node → Change
+Finishes (Ok value) copying item from = Becomes (λ node. with_props (finished_props copying item from node) node)
+Finishes (Err e) copying item from = Maybe (Becomes (λ node. with_props (finished_props copying item from node) node))
+
+-- all that a copy of files leaves as it was
+pub record CopiesFiles (tells : Bool) (cause : Cause) (old new : Seen) : Type 0 where
+  pub source : tells ≡ true → new.told.source ≡ old.told.source
+  pub notes : tells ≡ true → new.told.notes ≡ old.told.notes
+  pub bound : new.bound ≡ old.bound
+  pub counts : Counts cause old.faults new.faults
+
+-- at Ok these are added, and else perhaps
+abbrev pub Opens : {T E : Type 0} → Result T E → List Want → List Want → List Want → Type 0
+Opens (Ok value) wants old new = new ≡ old ++ wants
+Opens (Err e) wants old new = (new ≡ old) ⊎ (new ≡ old ++ wants)

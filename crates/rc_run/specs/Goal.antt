@@ -1,21 +1,17 @@
--- What a run leaves, one key at a time, said of its words and of the two whole trees on which it started; and what it reads.
-use Rattle.std.specs.Prelude.{◌≡◌, ℕ, Bool, ◌&&◌, List, [], ◌∷◌, map, filter, nat_lt}
+-- What a run leaves, one key at a time, said of its job and of the two whole trees on which it started; and what it reads.
+use Rattle.std.specs.Prelude.{◌≡◌, ℕ, ◌+◌, ◌==◌, Bool, List, [], ◌∷◌, flat_map, if◌then◌else◌}
 use Rattle.std.specs.FinMap.{get}
 use Rattle.rc_class.specs.declared.item.Item.{Item}
 use Rattle.rc_class.specs.Start.{Start, goal_source, goal_target}
-use Rattle.rc_class.specs.Units.{is_copy}
-use Rattle.rc_filter.specs.Decided.{planned_items, start_of}
+use Rattle.rc_class.specs.Units.{Range, Unit as FileUnit, item_units}
+use Rattle.rc_filter.specs.Decided.{planned_items}
+use Rattle.rc_job.specs.declared.job.Job.{Job}
 use Rattle.rc_volume.specs.declared.want.Want.{Want}
 use Rattle.rc_volume.specs.Site.{Told}
-use Rattle.rc_run.specs.Words.{job_of}
 
--- where a run of these words begins
-abbrev pub start_at : List (List ℕ) → Told → Start
-start_at words told = start_of (job_of words) told.source told.target
-
--- what it decides, in the order of keys, where it began at this moment
-abbrev pub items_at : List (List ℕ) → Told → ℕ → List Item
-items_at words told moment = planned_items (job_of words) told.source told.target moment
+-- what a run of this job decides, in the order of keys, where it began at this moment
+abbrev pub items_at : Job → Told → ℕ → List Item
+items_at job told moment = planned_items job told.source told.target moment
 
 -- both trees are the goals at every key, and the record is empty
 pub record IsMirrored (start : Start) (moment : ℕ) (now : Told) : Type 0 where
@@ -23,14 +19,26 @@ pub record IsMirrored (start : Start) (moment : ℕ) (now : Told) : Type 0 where
   pub source : (key : List (List ℕ)) → get now.source key ≡ goal_source start moment key
   pub notes : now.notes ≡ []
 
--- whether bytes are read for an item: a file that has some is copied with its bytes
-abbrev pub is_read : Bool → Item → Bool
-is_read with_bytes item = with_bytes && (is_copy item.act && nat_lt 0 item.facts.size)
+-- Reading
 
--- all bytes of a file
-abbrev pub want_of : Item → Want
-want_of item = record { path = item.path; ranges = (0, item.facts.size) ∷ [] }
+-- a range before others, joined to the first of them where they adjoin
+abbrev pub joined_to : Range → List (ℕ × ℕ) → List (ℕ × ℕ)
+joined_to range [] = (range.off, range.len) ∷ []
+joined_to range (next ∷ more) =
+    if range.off + range.len == next.0
+    then (range.off, range.len + next.1) ∷ more
+    else (range.off, range.len) ∷ next ∷ more
+
+-- the ranges of units, those that adjoin as one
+abbrev pub joined : List FileUnit → List (ℕ × ℕ)
+joined [] = []
+joined (unit ∷ units) = joined_to unit.range (joined units)
+
+-- what is read of a file that is to be read in these units
+abbrev pub wants_in : List (List ℕ) → List FileUnit → List Want
+wants_in path [] = []
+wants_in path (unit ∷ units) = record { path = path; ranges = joined (unit ∷ units) } ∷ []
 
 -- what is read for these items
-abbrev pub wants_of : Bool → List Item → List Want
-wants_of with_bytes items = map want_of (filter (is_read with_bytes) items)
+abbrev pub wants_of : ℕ → Bool → List Item → List Want
+wants_of stride with_bytes items = flat_map (λ item. wants_in item.path (item_units stride with_bytes item)) items

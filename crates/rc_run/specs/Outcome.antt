@@ -1,193 +1,159 @@
--- What an outcome's status and line are, and what it is caused by.
-use Rattle.std.specs.Prelude.{◌⊎◌, ℕ, List, [], ◌∷◌, ◌++◌, codes, decimal}
+-- The outcomes of a run in one table: at which step each comes, and which part failed. All else that is said of them is
+-- looked up there.
+use Rattle.std.specs.Prelude.{◌≡◌, ◌⊎◌, ℕ, ◌≤◌, Bool, true, false, List, [], ◌∷◌, ◌++◌, codes, decimal, Result, Ok, Err}
 use Rattle.rc_volume.specs.declared.site.Part.{Part}
 use Rattle.rc_volume.specs.declared.site.Part.TheVariants as part
 use Rattle.rc_volume.specs.declared.site.Side.{Side}
 use Rattle.rc_volume.specs.declared.site.Side.TheVariants as side
-use Rattle.rc_volume.specs.declared.site.SiteErr.{SiteErr}
-use Rattle.rc_volume.specs.declared.site.SiteErr.TheVariants as site_err
-use Rattle.rc_volume.specs.Faults.{Rose}
-use Rattle.rc_volume.specs.Site.{part_for}
+use Rattle.rc_volume.specs.Faults.{Cause, free, on, part_for}
 use Rattle.rc_run.specs.declared.outcome.Outcome.{Outcome}
 use Rattle.rc_run.specs.declared.outcome.Outcome.TheVariants.{Done, Usage, NotYet, RootFault, ListFault, RecordFault, SiteFault, SinkFault, NoMemory}
+use Rattle.rc_run.specs.declared.outcome.Unbuilt.{Unbuilt}
+use Rattle.rc_run.specs.declared.outcome.Unbuilt.TheVariants as unbuilt
 
--- the exit status
+-- The steps of a run, by their places in its order
+
+abbrev pub at_words : ℕ
+at_words = 1
+
+abbrev pub at_roots : ℕ
+at_roots = 2
+
+abbrev pub at_record : ℕ
+at_record = 3
+
+abbrev pub at_listing : ℕ
+at_listing = 4
+
+abbrev pub at_limits : ℕ
+at_limits = 5
+
+abbrev pub at_copies : ℕ
+at_copies = 6
+
+abbrev pub at_report : ℕ
+at_report = 7
+
+abbrev pub at_end : ℕ
+at_end = 8
+
+-- how a run ends
+pub data Ending : Type 0 where
+  -- refused at a step
+  refused : ℕ → Ending
+  -- a part failed at a step
+  failed : ℕ → Part → Ending
+  -- the report could not be written
+  unreported : Ending
+  -- all is done
+  finished : Ending
+  -- memory was wanting, at whatever step
+  out_of_memory : Ending
+
+-- where what is not built yet is found out
+abbrev pub unbuilt_step : Unbuilt → ℕ
+unbuilt_step unbuilt.Words = at_words
+unbuilt_step unbuilt.Trees = at_limits
+unbuilt_step unbuilt.Record = at_record
+
+-- the table
+abbrev pub ending : Outcome → Ending
+ending (Done bits moment) = finished
+ending (Usage file place kind) = refused at_words
+ending (NotYet what) = refused (unbuilt_step what)
+ending (RootFault side) = failed at_roots (part_for side)
+ending RecordFault = failed at_record part.Record
+ending (ListFault side) = failed at_listing (part_for side)
+ending (SiteFault side) = failed at_copies (part_for side)
+ending SinkFault = unreported
+ending NoMemory = out_of_memory
+
+-- What is looked up in it
+
+-- the step that a run surely came to
+abbrev pub first_step : Ending → ℕ
+first_step (refused step) = step
+first_step (failed step part) = step
+first_step unreported = at_report
+first_step finished = at_end
+first_step out_of_memory = 0
+
+-- the step that it did not come past
+abbrev pub last_step : Ending → ℕ
+last_step (refused step) = step
+last_step (failed step part) = step
+last_step unreported = at_report
+last_step finished = at_end
+last_step out_of_memory = at_end
+
+-- what it says of the counts of faults of the site
+abbrev pub cause_of : Ending → Cause
+cause_of (refused step) = free
+cause_of (failed step part) = on part 1
+cause_of unreported = free
+cause_of finished = free
+cause_of out_of_memory = free
+
+abbrev pub run_cause : {T : Type 0} → Result T Outcome → Cause
+run_cause (Ok value) = free
+run_cause (Err outcome) = cause_of (ending outcome)
+
+-- whether the report's sink failed
+abbrev pub is_unreported : Ending → Bool
+is_unreported unreported = true
+is_unreported other = false
+
+-- the exit status of an ending without bits
+abbrev pub status_at : Ending → ℕ
+status_at out_of_memory = 32
+status_at other = 16
+
 abbrev pub status_of : Outcome → ℕ
 status_of (Done bits moment) = bits
-status_of (Usage file place kind) = 16
-status_of (NotYet what) = 16
-status_of (RootFault side) = 16
-status_of (ListFault side) = 16
-status_of RecordFault = 16
-status_of (SiteFault side) = 16
-status_of SinkFault = 16
-status_of NoMemory = 32
+status_of other = status_at (ending other)
+
+-- at Done, of its bits and its moment
+abbrev pub IfDone : Outcome → (ℕ → ℕ → Type 0) → Type 0
+IfDone (Done bits moment) holds = holds bits moment
+IfDone other holds = Unit {0}
+
+-- the answer comes at one of these steps: as a refusal of which this holds, or otherwise
+abbrev pub EndsAt : ℕ → ℕ → Type 0 → Ending → Type 0
+EndsAt from to holds (refused step) = (from ≤ step) × (step ≤ to) × holds
+EndsAt from to holds (failed step part) = (from ≤ step) × (step ≤ to)
+EndsAt from to holds unreported = (from ≤ at_report) × (at_report ≤ to)
+EndsAt from to holds finished = (from ≤ at_end) × (at_end ≤ to)
+EndsAt from to holds out_of_memory = from ≤ at_end
+
+-- this, or want of memory
+abbrev pub IsOrNoMemory : Outcome → Outcome → Type 0
+IsOrNoMemory wanted outcome = (outcome ≡ wanted) ⊎ (outcome ≡ NoMemory)
+
+-- Lines
 
 abbrev pub side_name : Side → List ℕ
 side_name side.Source = codes "source"
 side_name side.Target = codes "target"
+
+-- the number of what is not built yet
+abbrev pub unbuilt_number : Unbuilt → ℕ
+unbuilt_number unbuilt.Words = 1
+unbuilt_number unbuilt.Trees = 2
+unbuilt_number unbuilt.Record = 3
 
 -- where the word stands: on the command line, or in a job file
 abbrev pub in_file : List ℕ → List ℕ
 in_file [] = []
 in_file (c ∷ cs) = codes " of job file " ++ c ∷ cs
 
--- the line of a refusal or a fault, without its line end; nothing at Done
+-- the line of a refusal or a fault, without its line end; nothing at Done. Each outcome has words of its own.
 abbrev pub line_of : Outcome → List ℕ
 line_of (Done bits moment) = []
 line_of (Usage file place kind) = codes "ERROR: usage U" ++ decimal kind ++ codes " at word " ++ decimal place ++ in_file file
-line_of (NotYet what) = codes "ERROR: not built yet: " ++ decimal what
+line_of (NotYet what) = codes "ERROR: not built yet: " ++ decimal (unbuilt_number what)
 line_of (RootFault side) = codes "ERROR: root fault: " ++ side_name side
 line_of (ListFault side) = codes "ERROR: listing fault: " ++ side_name side
 line_of RecordFault = codes "ERROR: record fault"
 line_of (SiteFault side) = codes "ERROR: volume fault: " ++ side_name side
 line_of SinkFault = codes "ERROR: report fault"
 line_of NoMemory = codes "ERROR: no memory"
-
--- A fault comes only where its count rose, which `risen` says of the site's parts and `sink` of the sink. Of every
--- answer but want of memory, which is free, `holds` is what it says besides.
-abbrev pub IsCaused : (Part → Type 0) → Type 0 → (Outcome → Type 0) → Outcome → Type 0
-IsCaused risen sink holds (RootFault side) = risen (part_for side) × holds (RootFault side)
-IsCaused risen sink holds (ListFault side) = risen (part_for side) × holds (ListFault side)
-IsCaused risen sink holds RecordFault = risen part.Record × holds RecordFault
-IsCaused risen sink holds (SiteFault side) = risen (part_for side) × holds (SiteFault side)
-IsCaused risen sink holds SinkFault = sink × holds SinkFault
-IsCaused risen sink holds NoMemory = Unit {0}
-IsCaused risen sink holds (Done bits moment) = holds (Done bits moment)
-IsCaused risen sink holds (Usage file place kind) = holds (Usage file place kind)
-IsCaused risen sink holds (NotYet what) = holds (NotYet what)
-
--- the count of a part rose
-abbrev pub RisesIn : (Part → ℕ) → (Part → ℕ) → Part → Type 0
-RisesIn before now part = Rose (before part) (now part)
-
--- the same while failed reads of the source are still in a tally
-abbrev pub RisesInOr : (Part → ℕ) → (Part → ℕ) → ℕ → ℕ → Part → Type 0
-RisesInOr before now tally_before tally_now part.Source = Rose (before part.Source) (now part.Source) ⊎ Rose tally_before tally_now
-RisesInOr before now tally_before tally_now part.Target = Rose (before part.Target) (now part.Target)
-RisesInOr before now tally_before tally_now part.Record = Rose (before part.Record) (now part.Record)
-
--- at Done, of its bits and its moment
-abbrev pub IfDone : Outcome → (ℕ → ℕ → Type 0) → Type 0
-IfDone (Done bits moment) holds = holds bits moment
-IfDone (Usage file place kind) holds = Unit {0}
-IfDone (NotYet what) holds = Unit {0}
-IfDone (RootFault side) holds = Unit {0}
-IfDone (ListFault side) holds = Unit {0}
-IfDone RecordFault holds = Unit {0}
-IfDone (SiteFault side) holds = Unit {0}
-IfDone SinkFault holds = Unit {0}
-IfDone NoMemory holds = Unit {0}
-
--- what a call of a site that failed so on this side ends a run with
-abbrev pub fault_of : SiteErr → Side → Outcome
-fault_of site_err.Failed side = SiteFault side
-fault_of site_err.NoMemory side = NoMemory
-
--- a refusal of the words or of what the site tells
-abbrev pub IsRefusal : Outcome → Type 0
-IsRefusal (Done bits moment) = ⊥
-IsRefusal (Usage file place kind) = Unit {0}
-IsRefusal (NotYet what) = Unit {0}
-IsRefusal (RootFault side) = ⊥
-IsRefusal (ListFault side) = ⊥
-IsRefusal RecordFault = ⊥
-IsRefusal (SiteFault side) = ⊥
-IsRefusal SinkFault = ⊥
-IsRefusal NoMemory = ⊥
-
--- a root could not be bound
-abbrev pub IsRootFault : Outcome → Type 0
-IsRootFault (Done bits moment) = ⊥
-IsRootFault (Usage file place kind) = ⊥
-IsRootFault (NotYet what) = ⊥
-IsRootFault (RootFault side) = Unit {0}
-IsRootFault (ListFault side) = ⊥
-IsRootFault RecordFault = ⊥
-IsRootFault (SiteFault side) = ⊥
-IsRootFault SinkFault = ⊥
-IsRootFault NoMemory = ⊥
-
--- a listing failed
-abbrev pub IsListFault : Outcome → Type 0
-IsListFault (Done bits moment) = ⊥
-IsListFault (Usage file place kind) = ⊥
-IsListFault (NotYet what) = ⊥
-IsListFault (RootFault side) = ⊥
-IsListFault (ListFault side) = Unit {0}
-IsListFault RecordFault = ⊥
-IsListFault (SiteFault side) = ⊥
-IsListFault SinkFault = ⊥
-IsListFault NoMemory = ⊥
-
--- a call on a tree failed
-abbrev pub IsSiteFault : Outcome → Type 0
-IsSiteFault (Done bits moment) = ⊥
-IsSiteFault (Usage file place kind) = ⊥
-IsSiteFault (NotYet what) = ⊥
-IsSiteFault (RootFault side) = ⊥
-IsSiteFault (ListFault side) = ⊥
-IsSiteFault RecordFault = ⊥
-IsSiteFault (SiteFault side) = Unit {0}
-IsSiteFault SinkFault = ⊥
-IsSiteFault NoMemory = ⊥
-
--- the report could not be written
-abbrev pub IsSinkFault : Outcome → Type 0
-IsSinkFault (Done bits moment) = ⊥
-IsSinkFault (Usage file place kind) = ⊥
-IsSinkFault (NotYet what) = ⊥
-IsSinkFault (RootFault side) = ⊥
-IsSinkFault (ListFault side) = ⊥
-IsSinkFault RecordFault = ⊥
-IsSinkFault (SiteFault side) = ⊥
-IsSinkFault SinkFault = Unit {0}
-IsSinkFault NoMemory = ⊥
-
--- a fault behind the listings
-abbrev pub IsLateFault : Outcome → Type 0
-IsLateFault (Done bits moment) = ⊥
-IsLateFault (Usage file place kind) = ⊥
-IsLateFault (NotYet what) = ⊥
-IsLateFault (RootFault side) = ⊥
-IsLateFault (ListFault side) = ⊥
-IsLateFault RecordFault = ⊥
-IsLateFault (SiteFault side) = Unit {0}
-IsLateFault SinkFault = Unit {0}
-IsLateFault NoMemory = ⊥
-
--- an answer that comes before the first change
-abbrev pub IsEarly : Outcome → Type 0
-IsEarly (Done bits moment) = ⊥
-IsEarly (Usage file place kind) = Unit {0}
-IsEarly (NotYet what) = Unit {0}
-IsEarly (RootFault side) = Unit {0}
-IsEarly (ListFault side) = Unit {0}
-IsEarly RecordFault = Unit {0}
-IsEarly (SiteFault side) = ⊥
-IsEarly SinkFault = ⊥
-IsEarly NoMemory = ⊥
-
--- an answer that comes before the report
-abbrev pub IsBeforeReport : Outcome → Type 0
-IsBeforeReport (Done bits moment) = ⊥
-IsBeforeReport (Usage file place kind) = Unit {0}
-IsBeforeReport (NotYet what) = Unit {0}
-IsBeforeReport (RootFault side) = Unit {0}
-IsBeforeReport (ListFault side) = Unit {0}
-IsBeforeReport RecordFault = Unit {0}
-IsBeforeReport (SiteFault side) = Unit {0}
-IsBeforeReport SinkFault = ⊥
-IsBeforeReport NoMemory = ⊥
-
--- the run is done
-abbrev pub IsDone : Outcome → Type 0
-IsDone (Done bits moment) = Unit {0}
-IsDone (Usage file place kind) = ⊥
-IsDone (NotYet what) = ⊥
-IsDone (RootFault side) = ⊥
-IsDone (ListFault side) = ⊥
-IsDone RecordFault = ⊥
-IsDone (SiteFault side) = ⊥
-IsDone SinkFault = ⊥
-IsDone NoMemory = ⊥

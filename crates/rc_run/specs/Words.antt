@@ -1,13 +1,21 @@
 -- What the words of a run ask for, and why others are refused.
-use Rattle.std.specs.Prelude.{ℕ, Bool, true, false, not, ◌&&◌, ◌||◌, List, [], ◌∷◌, Option, None, Some, is_some, take, drop, codes, if◌then◌else◌}
+use Rattle.std.specs.Prelude.{ℕ, Bool, false, not, ◌&&◌, ◌||◌, List, [], ◌∷◌, Option, None, Some, String, Result, Ok, Err, is_some, map, take, drop, chars, codes, encode_utf8_all, string_bytes, if◌then◌else◌}
 use Rattle.std.specs.Char.{is_ascii_alphanumeric, eq_ignore_ascii_case}
 use Rattle.std.specs.List.{list_any, list_all}
 use Rattle.std.specs.Str.{str_eq_ignore_ascii_case}
 use Rattle.rc_job.specs.declared.job.CopyFlags.{CopyFlags}
 use Rattle.rc_job.specs.declared.job.Job.{Job}
 use Rattle.rc_job.specs.Job.{dat}
+use Rattle.rc_tree.specs.declared.entry.Scan.TheVariants as scan
+use Rattle.rc_volume.specs.declared.binding.Binding.{Binding}
 use Rattle.rc_run.specs.declared.outcome.Outcome.{Outcome}
 use Rattle.rc_run.specs.declared.outcome.Outcome.TheVariants.{NotYet, Usage}
+use Rattle.rc_run.specs.declared.outcome.Unbuilt.TheVariants as unbuilt
+use Rattle.rc_run.specs.declared.words.Request.{Request}
+
+-- the characters of words
+abbrev pub texts : {A : Type 0} → List (String A) → List (List ℕ)
+texts words = map (λ w. chars (string_bytes w)) words
 
 -- Switches: their names are read in either case
 
@@ -67,28 +75,6 @@ is_plain (b ∷ bs) = list_all is_ascii_alphanumeric (b ∷ bs)
 abbrev pub are_roots : List ℕ → List ℕ → Bool
 are_roots source target = is_plain source && (is_plain target && not (str_eq_ignore_ascii_case source target))
 
--- at most two roots, and switches behind them
-abbrev pub are_built : List (List ℕ) → Bool
-are_built [] = true
-are_built (source ∷ []) = is_plain source
-are_built (source ∷ target ∷ words) = are_roots source target && list_all is_switch words
-
--- Refusals
-
--- the command line lacks a word
-abbrev pub usage : ℕ → Outcome
-usage kind = Usage [] 0 kind
-
--- the refusal of too few words
-abbrev pub usage_of : List (List ℕ) → Option Outcome
-usage_of [] = Some (usage 10)
-usage_of (source ∷ []) = Some (usage 11)
-usage_of (source ∷ target ∷ words) = None
-
--- why a run with these words is refused; nothing for two roots and switches
-abbrev pub refusal_of : List (List ℕ) → Option Outcome
-refusal_of words = if are_built words then usage_of words else Some (NotYet 1)
-
 -- The job
 
 -- whether a switch stands among words
@@ -132,5 +118,29 @@ job_by words = record {
   with_tweaked = has (codes "/IT") words;
 }
 
-abbrev pub job_of : List (List ℕ) → Job
-job_of words = job_by (drop 2 words)
+-- Requests
+
+-- the command line lacks a word
+abbrev pub lacks_word : ℕ → Outcome
+lacks_word kind = Usage [] 0 kind
+
+-- two plain roots, and switches that are built behind them
+abbrev pub are_built : List ℕ → List ℕ → List (List ℕ) → Bool
+are_built source target switches = are_roots source target && list_all is_switch switches
+
+-- what two roots and switches behind them ask for, where these are built
+abbrev pub asked_behind : List ℕ → List ℕ → List (List ℕ) → Result Request Outcome
+asked_behind source target switches =
+    if are_built (encode_utf8_all source) (encode_utf8_all target) (map encode_utf8_all switches)
+    then Ok (record { source = source; target = target; job = job_by (map encode_utf8_all switches) })
+    else Err (NotYet unbuilt.Words)
+
+-- what words ask for, or why they are refused
+abbrev pub asked : List (List ℕ) → Result Request Outcome
+asked [] = Err (lacks_word 10)
+asked (source ∷ []) = if is_plain (encode_utf8_all source) then Err (lacks_word 11) else Err (NotYet unbuilt.Words)
+asked (source ∷ target ∷ switches) = asked_behind source target switches
+
+-- how a site is told the roots of a request
+abbrev pub binding_of : Request → ℕ → Binding
+binding_of request moment = record { source = request.source; target = request.target; scan = scan.Size; moment = moment }

@@ -5,11 +5,14 @@
 #![tactic(auto)]
 
 mod copying;
+mod filling;
+mod finishing;
 mod outcome;
 mod run;
 #[cfg(test)]
 mod tests;
 mod words;
 
-pub use outcome::{Outcome, outcome_text, status};
+pub use outcome::{Outcome, Unbuilt, outcome_text, status};
 pub use run::{Ended, mirror_alone};
+pub use words::Request;

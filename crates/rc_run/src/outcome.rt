@@ -1,9 +1,22 @@
+//! How a run ended.
+
 ghost use Rattle.std.specs.Prelude.{◌≡◌, ◌++◌, IfOk, chars, codes, decimal, string_bytes};
-ghost use Rattle.rc_run.specs.Outcome.{status_of, line_of, side_name};
+ghost use Rattle.rc_run.specs.Outcome.{status_of, line_of, side_name, unbuilt_number};
 
 use rc_tree::{NoMemory, Text};
 use rc_volume::Side;
 use std::alloc::{AllocError, Global};
+
+/// What a run would need that is not built yet.
+#[derive(Clone, Copy, Debug, PartialEq, Eq)]
+pub enum Unbuilt {
+    /// A word that asks for something else than two plain roots and the switches that are built.
+    Words,
+    /// A directory in a root, or a file of more than 2^40 bytes in the source's where copies have bytes.
+    Trees,
+    /// A record of a run.
+    Record,
+}
 
 /// How a run ended.
 #[derive(Debug, Drop)]
@@ -15,7 +28,7 @@ pub enum Outcome {
     /// from 1, or 0 where no one word is at fault; and the kind of the refusal.
     Usage { file: Text, place: u64, kind: u8 },
     /// What was asked is not built yet.
-    NotYet { what: u8 },
+    NotYet { what: Unbuilt },
     /// A root could not be bound.
     RootFault { side: Side },
     /// A directory could not be listed.
@@ -66,7 +79,8 @@ fn line_of(alloc: Global, outcome: &Outcome) -> Result<String, AllocError>
 
 // The line of a refused word, of the command line or of a job file.
 fn usage_line(alloc: Global, file: &Text, place: u64, kind: u8) -> Result<String, AllocError>
-    ensures { IfOk result (λ line. chars (string_bytes line) ≡ line_of (Outcome.Usage file.now place kind)) }
+    ensures { IfOk result
+        (λ line. chars (string_bytes line) ≡ line_of (Outcome.Usage file.now place kind)) }
 {
     let mut line = word_line(alloc, place, kind)?;
     let file = file.text();
@@ -79,19 +93,33 @@ fn usage_line(alloc: Global, file: &Text, place: u64, kind: u8) -> Result<String
 
 // The part of that line that both have.
 fn word_line(alloc: Global, place: u64, kind: u8) -> Result<String, AllocError>
-    ensures { IfOk result (λ line. string_bytes line ≡ codes "ERROR: usage U" ++ decimal kind ++ codes " at word " ++ decimal place) }
+    ensures { IfOk result (λ line. string_bytes line
+        ≡ codes "ERROR: usage U" ++ decimal kind ++ codes " at word " ++ decimal place) }
 {
     format!(in alloc; "ERROR: usage U{kind} at word {place}")
 }
 
-fn not_yet_line(alloc: Global, what: u8) -> Result<String, AllocError>
-    ensures { IfOk result (λ line. string_bytes line ≡ codes "ERROR: not built yet: " ++ decimal what) }
+fn not_yet_line(alloc: Global, what: Unbuilt) -> Result<String, AllocError>
+    ensures { IfOk result (λ line.
+        string_bytes line ≡ codes "ERROR: not built yet: " ++ decimal (unbuilt_number what)) }
 {
-    format!(in alloc; "ERROR: not built yet: {what}")
+    let number = unbuilt_number(what);
+    format!(in alloc; "ERROR: not built yet: {number}")
+}
+
+fn unbuilt_number(what: Unbuilt) -> u8
+    ensures { result ≡ unbuilt_number what }
+{
+    match what {
+        Unbuilt::Words => 1,
+        Unbuilt::Trees => 2,
+        Unbuilt::Record => 3,
+    }
 }
 
 fn fault_line(alloc: Global, what: &str, side: Side) -> Result<String, AllocError>
-    ensures { IfOk result (λ line. string_bytes line ≡ codes "ERROR: " ++ what.now ++ codes " fault: " ++ side_name side) }
+    ensures { IfOk result (λ line. string_bytes line
+        ≡ codes "ERROR: " ++ what.now ++ codes " fault: " ++ side_name side) }
 {
     let side = side_name(side);
     format!(in alloc; "ERROR: {what} fault: {side}")

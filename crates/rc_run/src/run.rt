@@ -1,22 +1,23 @@
-ghost use Rattle.std.specs.Prelude.{◌≡◌, ◌≤◌, ◌++◌, ◌^◌, ℕ, true, [], Some, None, map, All, IfOk, OnOk, OnErr, IfErr, string_bytes, length};
-ghost use Rattle.rc_tree.specs.Path.{key_of};
-ghost use Rattle.rc_class.specs.Items.{are_rising};
+//! The steps of a run, in their order.
+
+ghost use Rattle.std.specs.Prelude.{◌≡◌, ◌⊎◌, ◌+◌, ◌<◌, ◌≤◌, ◌++◌, ◌∷◌, ℕ, true, false, [], IfOk, IfErr, OnOk, min};
 ghost use Rattle.rc_class.specs.Start.{IsPlanOf};
-ghost use Rattle.rc_class.specs.Units.{is_copy};
-ghost use Rattle.rc_filter.specs.Decided.{is_in_root, start_of};
+ghost use Rattle.rc_plan.specs.Plan.{start_in, IsMadeFor};
 ghost use Rattle.rc_plan.specs.Roots.{are_built};
 ghost use Rattle.rc_report.specs.Report.{bits_of, report_of, totals_of};
 ghost use Rattle.rc_volume.specs.declared.site.Part.{Part};
-ghost use Rattle.rc_volume.specs.Faults.{Rose};
+ghost use Rattle.rc_volume.specs.Faults.{free, last_count, Counts, RisesIf, RoseBy};
+ghost use Rattle.rc_volume.specs.Frames.{Binds, IsBound, Looks};
 ghost use Rattle.rc_volume.specs.Streams.{AppendsFront};
-ghost use Rattle.rc_run.specs.Answers.{Accepts, Answers, IsExpected, IsRecordAnswer, IsTreesAnswer, Stops, start_refusal};
-ghost use Rattle.rc_run.specs.Goal.{IsMirrored, items_at, start_at, wants_of};
-ghost use Rattle.rc_run.specs.Outcome.{IfDone, IsBeforeReport, IsCaused, IsEarly, IsLateFault, IsRootFault, IsSinkFault, RisesIn};
-ghost use Rattle.rc_run.specs.Words.{job_of, refusal_of};
+ghost use Rattle.rc_run.specs.Answers.{is_empty, start_refusal, Answers, AreBitsOf, IsExpected, Leaves, Sends};
+ghost use Rattle.rc_run.specs.Copying.{CopiesFiles, Opens};
+ghost use Rattle.rc_run.specs.Goal.{items_at, wants_of, IsMirrored};
+ghost use Rattle.rc_run.specs.Outcome.{at_copies, at_end, at_limits, at_listing, at_record, at_report, at_roots, cause_of, ending, finished, first_step, is_unreported, last_step, run_cause, EndsAt, IfDone, IsOrNoMemory};
+ghost use Rattle.rc_run.specs.Words.{asked, binding_of, texts};
 
-use crate::Outcome;
-use crate::copying::{Terms, copy_items};
-use crate::words::{job_of, refusal_of};
+use crate::copying::{CopyErr, Copying, copy_items};
+use crate::words::{Request, read_words};
+use crate::{Outcome, Unbuilt};
 use rc_class::Plan;
 use rc_filter::{
     copies_are_of_files, files_are_copied_or_left, plans_have_the_planned_items, rules,
@@ -36,161 +37,181 @@ pub struct Ended<S> {
     pub outcome: Outcome,
 }
 
-// What a run begins with.
-#[derive(Debug, Drop)]
-struct Started {
-    job: Job,
-    moment: Moment,
-}
-
 /// Mirrors the source of a site onto its target, alone: with no threads and no locks. It returns.
 ///
 /// The words are the two roots and switches behind them. Where the site tells its trees, `Done` says that both are now
 /// the goals of the trees at the start, at every key, and that the report and the bits are those of the same decisions.
-/// Each fault comes only where the count of its part rose in this call.
+/// Each fault comes only where the count of its part rose in this call. Words that are refused touch nothing.
 pub fn mirror_alone<S: Site, J: JobStore, K: Sink, C: Clock>(
     alloc: Global,
     words: &[String],
     site: S,
-    _jobs: &mut J,
+    jobs: &mut J,
     sink: &mut K,
     clock: &mut C,
 ) -> Ended<S>
-    ensures mirrored { S.tells ≡ true → IfDone result.outcome (λ bits moment. IsMirrored (start_at (map (λ w. string_bytes w) words.now) (S.told site)) moment (S.told result.site)) }
-    ensures bits { S.tells ≡ true → IfDone result.outcome (λ bits moment. bits ≡ bits_of (totals_of (items_at (map (λ w. string_bytes w) words.now) (S.told site) moment))) }
-    ensures moment { IfDone result.outcome (λ bits moment. moment ≡ C.last clock.new) }
+    // Words that are refused.
+    ensures refused { IfErr (asked (texts words.now)) (λ refusal. IsOrNoMemory refusal result.outcome) }
+    ensures untouched { IfErr (asked (texts words.now)) (λ _.
+        (result.site ≡ site) × (sink.new ≡ sink.old) × (clock.new ≡ clock.old)) }
+    ensures jobs { jobs.new ≡ jobs.old }
+
+    // Words that are accepted: what is answered, and why.
+    ensures answers { IfOk (asked (texts words.now)) (λ request.
+        Answers S.tells request.job (S.view site).told result.outcome) }
+    ensures cause { Counts (cause_of (ending result.outcome))
+        (S.view site).faults (S.view result.site).faults }
+    ensures sink_cause { RisesIf (is_unreported (ending result.outcome))
+        (K.faults sink.old) (K.faults sink.new) }
+    ensures complete { S.tells ≡ true →
+        ((part : Part) → RoseBy 1 ((S.view site).faults part) ((S.view result.site).faults part) → ⊥) →
+        (RoseBy 1 (K.faults sink.old) (K.faults sink.new) → ⊥) →
+        IsExpected (start_refusal (asked (texts words.now)) (S.view site).told) result.outcome }
+
+    // What becomes of the site.
+    ensures leaves { S.tells ≡ true → IfOk (asked (texts words.now)) (λ request.
+        Leaves request.job (C.last clock.new) (S.view site).told (S.view result.site).told result.outcome) }
+    ensures opened { S.tells ≡ true → IfOk (asked (texts words.now)) (λ request.
+        let wants = wants_of 0 request.job.copy.data_bytes
+        (items_at request.job (S.view site).told (C.last clock.new)) in
+        let opened = (S.view result.site).opened in
+        ((opened ≡ (S.view site).opened) ⊎ (opened ≡ (S.view site).opened ++ wants))
+        × IfDone result.outcome (λ _ _. opened ≡ (S.view site).opened ++ wants)) }
+    ensures unopened { last_step (ending result.outcome) < at_copies →
+        (S.view result.site).opened ≡ (S.view site).opened }
+    ensures bound { IfOk (asked (texts words.now)) (λ request.
+        let bound = (S.view site).bound in
+        let named = bound ++ binding_of request (C.last clock.new) ∷ [] in
+        (((S.view result.site).bound ≡ bound) ⊎ ((S.view result.site).bound ≡ named))
+        × (at_roots < first_step (ending result.outcome) → (S.view result.site).bound ≡ named)) }
+
+    // What is reported.
+    ensures bits { S.tells ≡ true → IfOk (asked (texts words.now)) (λ request.
+        IfDone result.outcome (AreBitsOf request.job (S.view site).told)) }
+    ensures moment { IfDone result.outcome (λ _ moment. moment ≡ C.last clock.new) }
+    ensures sends { S.tells ≡ true → K.tells ≡ true → IfOk (asked (texts words.now)) (λ request.
+        Sends request.job (C.last clock.new) (S.view site).told result.outcome
+        (K.received sink.old) (K.received sink.new)) }
+    ensures silent { last_step (ending result.outcome) < at_report →
+        K.received sink.new ≡ K.received sink.old }
+    ensures reported { S.tells ≡ true → IfOk (asked (texts words.now)) (λ request.
+        (K.received sink.new ≡ K.received sink.old)
+        ⊎ IsMirrored (start_in request.job (S.view site).told) (C.last clock.new) (S.view result.site).told) }
+
+    // The clock is read once behind the words, and never waited by.
     ensures clock { C.tells ≡ true → C.always clock.new ≡ C.always clock.old }
-    ensures report { S.tells ≡ true → K.tells ≡ true → IfDone result.outcome (λ bits moment. K.received sink.new ≡ K.received sink.old ++ report_of (items_at (map (λ w. string_bytes w) words.now) (S.told site) moment)) }
-    ensures opened { S.tells ≡ true → IfDone result.outcome (λ bits moment. S.opened result.site ≡ S.opened site ++ wants_of (job_of (map (λ w. string_bytes w) words.now)).copy.data_bytes (items_at (map (λ w. string_bytes w) words.now) (S.told site) moment)) }
-    ensures counts { (part : Part) → S.faults site part ≤ S.faults result.site part }
-    ensures cause { IsCaused (RisesIn (S.faults site) (S.faults result.site)) (Rose (K.faults sink.old) (K.faults sink.new)) (Answers (S.tells ≡ true) (map (λ w. string_bytes w) words.now) (S.told site)) result.outcome }
-    ensures refused { (refusal : Outcome) → refusal_of (map (λ w. string_bytes w) words.now) ≡ Some refusal → IsExpected (Some refusal) result.outcome }
-    ensures complete { S.tells ≡ true → ((part : Part) → RisesIn (S.faults site) (S.faults result.site) part → ⊥) → (Rose (K.faults sink.old) (K.faults sink.new) → ⊥) → IsExpected (start_refusal (map (λ w. string_bytes w) words.now) (S.told site)) result.outcome }
-    ensures unchanged { S.tells ≡ true → IsEarly result.outcome → S.told result.site ≡ S.told site }
-    ensures kept { S.tells ≡ true → ((S.told result.site).source ≡ (S.told site).source) × ((S.told result.site).notes ≡ (S.told site).notes) }
-    ensures silent { IsBeforeReport result.outcome → K.received sink.new ≡ K.received sink.old }
-    ensures front { S.tells ≡ true → K.tells ≡ true → AppendsFront (K.received sink.old) (report_of (items_at (map (λ w. string_bytes w) words.now) (S.told site) (C.last clock.new))) (K.received sink.new) }
-    ensures sink_fault { S.tells ≡ true → result.outcome ≡ Outcome.SinkFault → IsMirrored (start_at (map (λ w. string_bytes w) words.now) (S.told site)) (C.last clock.new) (S.told result.site) }
+    ensures read { (C.reads clock.new ≡ min (C.reads clock.old + 1) last_count)
+        ⊎ ((C.reads clock.new ≡ C.reads clock.old) × (first_step (ending result.outcome) < at_roots)) }
+    ensures no_pause { C.pauses clock.new ≡ C.pauses clock.old }
 {
     let mut site = site;
-    match run(alloc, words, &mut site, sink, clock) {
-        Ok((bits, moment)) => Ended {
-            site,
-            outcome: Outcome::Done { bits, moment },
-        },
+    let _ = jobs;
+    match read_words(alloc, words) {
+        Ok(request) => {
+            let outcome = run(alloc, &request, &mut site, sink, clock);
+            Ended { site, outcome }
+        }
         Err(outcome) => Ended { site, outcome },
     }
 }
 
-// The steps of a run. It answers the exit bits and the moment at which it began.
-#[tactic(none)]
+// The steps of a run behind its words.
 fn run<S: Site, K: Sink, C: Clock>(
     alloc: Global,
-    words: &[String],
+    request: &Request,
     site: &mut S,
     sink: &mut K,
     clock: &mut C,
-) -> Result<(u8, u64), Outcome>
-    ensures mirrored { S.tells ≡ true → IfOk result (λ done. IsMirrored (start_at (map (λ w. string_bytes w) words.now) (S.told site.old)) done.1 (S.told site.new)) }
-    ensures bits { S.tells ≡ true → IfOk result (λ done. done.0 ≡ bits_of (totals_of (items_at (map (λ w. string_bytes w) words.now) (S.told site.old) done.1))) }
-    ensures moment { IfOk result (λ done. done.1 ≡ C.last clock.new) }
+) -> Outcome
+    ensures answers { Answers S.tells request.now.job (S.view site.old).told result }
+    ensures cause { Counts (cause_of (ending result)) (S.view site.old).faults (S.view site.new).faults }
+    ensures sink_cause { RisesIf (is_unreported (ending result)) (K.faults sink.old) (K.faults sink.new) }
+    ensures leaves { S.tells ≡ true →
+        Leaves request.now.job (C.last clock.new) (S.view site.old).told (S.view site.new).told result }
+    ensures opened { S.tells ≡ true →
+        let wants = wants_of 0 request.now.job.copy.data_bytes
+        (items_at request.now.job (S.view site.old).told (C.last clock.new)) in
+        let opened = (S.view site.new).opened in
+        ((opened ≡ (S.view site.old).opened) ⊎ (opened ≡ (S.view site.old).opened ++ wants))
+        × IfDone result (λ _ _. opened ≡ (S.view site.old).opened ++ wants) }
+    ensures unopened { last_step (ending result) < at_copies →
+        (S.view site.new).opened ≡ (S.view site.old).opened }
+    ensures bound { let bound = (S.view site.old).bound in
+        let named = bound ++ binding_of request.now (C.last clock.new) ∷ [] in
+        (((S.view site.new).bound ≡ bound) ⊎ ((S.view site.new).bound ≡ named))
+        × (at_roots < first_step (ending result) → (S.view site.new).bound ≡ named) }
+    ensures bits { S.tells ≡ true → IfDone result (AreBitsOf request.now.job (S.view site.old).told) }
+    ensures moment { IfDone result (λ _ moment. moment ≡ C.last clock.new) }
+    ensures sends { S.tells ≡ true → K.tells ≡ true →
+        Sends request.now.job (C.last clock.new) (S.view site.old).told result
+        (K.received sink.old) (K.received sink.new) }
+    ensures silent { last_step (ending result) < at_report → K.received sink.new ≡ K.received sink.old }
+    ensures reported { S.tells ≡ true → (K.received sink.new ≡ K.received sink.old)
+        ⊎ IsMirrored (start_in request.now.job (S.view site.old).told) (C.last clock.new)
+        (S.view site.new).told }
     ensures clock { C.tells ≡ true → C.always clock.new ≡ C.always clock.old }
-    ensures report { S.tells ≡ true → K.tells ≡ true → IfOk result (λ done. K.received sink.new ≡ K.received sink.old ++ report_of (items_at (map (λ w. string_bytes w) words.now) (S.told site.old) done.1)) }
-    ensures opened { S.tells ≡ true → IfOk result (λ done. S.opened site.new ≡ S.opened site.old ++ wants_of (job_of (map (λ w. string_bytes w) words.now)).copy.data_bytes (items_at (map (λ w. string_bytes w) words.now) (S.told site.old) done.1)) }
-    ensures counts { (part : Part) → S.faults site.old part ≤ S.faults site.new part }
-    ensures accepted { OnOk result (Accepts (S.tells ≡ true) (map (λ w. string_bytes w) words.now) (S.told site.old)) }
-    ensures cause { IfErr result (IsCaused (RisesIn (S.faults site.old) (S.faults site.new)) (Rose (K.faults sink.old) (K.faults sink.new)) (Stops (S.tells ≡ true) (map (λ w. string_bytes w) words.now) (S.told site.old))) }
-    ensures unchanged { S.tells ≡ true → IfErr result (λ e. IsEarly e → S.told site.new ≡ S.told site.old) }
-    ensures kept { S.tells ≡ true → ((S.told site.new).source ≡ (S.told site.old).source) × ((S.told site.new).notes ≡ (S.told site.old).notes) }
-    ensures silent { IfErr result (λ e. IsBeforeReport e → K.received sink.new ≡ K.received sink.old) }
-    ensures front { S.tells ≡ true → K.tells ≡ true → OnErr result (AppendsFront (K.received sink.old) (report_of (items_at (map (λ w. string_bytes w) words.now) (S.told site.old) (C.last clock.new))) (K.received sink.new)) }
-    ensures sink_fault { S.tells ≡ true → IfErr result (λ e. e ≡ Outcome.SinkFault → IsMirrored (start_at (map (λ w. string_bytes w) words.now) (S.told site.old)) (C.last clock.new) (S.told site.new)) }
+    ensures read { C.reads clock.new ≡ min (C.reads clock.old + 1) last_count }
+    ensures no_pause { C.pauses clock.new ≡ C.pauses clock.old }
 {
-    let started = match start(alloc, words, site, clock) {
-        Ok(started) => started,
-        Err(e) => return Err(e),
+    let moment = match start(alloc, request, site, clock) {
+        Ok(moment) => moment,
+        Err(e) => return e,
     };
-    let plan = match plan(alloc, site, &started.job, started.moment, clock) {
+    let plan = match plan(alloc, site, &request.job, moment, clock) {
         Ok(plan) => plan,
-        Err(e) => return Err(e),
+        Err(e) => return e,
     };
-    plans_have_the_planned_items();
-    match carry_out(alloc, site, sink, &started.job, &plan) {
-        Ok(()) => Ok((bits(&count_totals(&plan)), started.moment.units())),
-        Err(e) => Err(e),
-    }
+    carry_out(alloc, site, sink, &request.job, &plan)
 }
 
-// Looks at the words, reads the clock, names the roots and looks that there is no record.
+// Reads the clock, names the roots and looks that there is no record.
 fn start<S: Site, C: Clock>(
     alloc: Global,
-    words: &[String],
+    request: &Request,
     site: &mut S,
     clock: &mut C,
-) -> Result<Started, Outcome>
-    ensures job { IfOk result (λ started. started.job ≡ job_of (map (λ w. string_bytes w) words.now)) }
-    ensures moment { IfOk result (λ started. started.moment ≡ C.last clock.new) }
+) -> Result<Moment, Outcome>
+    ensures frame { Binds S.tells (run_cause result) (S.view site.old) (S.view site.new) }
+    ensures bound { IsBound result (binding_of request.now (C.last clock.new))
+        (S.view site.old).bound (S.view site.new).bound }
+    ensures named { IfErr result (λ e. at_roots < first_step (ending e) →
+        (S.view site.new).bound ≡ (S.view site.old).bound ++ binding_of request.now (C.last clock.new) ∷ []) }
+    ensures no_record { S.tells ≡ true → OnOk result ((S.view site.old).told.notes ≡ []) }
+    ensures ends { IfErr result (λ e. EndsAt at_roots at_record
+        ((e ≡ Outcome.NotYet Unbuilt.Record)
+        × (S.tells ≡ true → is_empty (S.view site.old).told.notes ≡ false)) (ending e)) }
+    ensures moment { IfOk result (λ moment. moment ≡ C.last clock.new) }
     ensures clock { C.tells ≡ true → C.always clock.new ≡ C.always clock.old }
-    ensures notes { S.tells ≡ true → OnOk result ((S.told site.old).notes ≡ []) }
-    ensures same { S.tells ≡ true → S.told site.new ≡ S.told site.old }
-    ensures opened { S.opened site.new ≡ S.opened site.old }
-    ensures counts { (part : Part) → S.faults site.old part ≤ S.faults site.new part }
-    ensures accepted { OnOk result (refusal_of (map (λ w. string_bytes w) words.now) ≡ None) }
-    ensures cause { IfErr result (IsCaused (RisesIn (S.faults site.old) (S.faults site.new)) ⊥ (Stops (S.tells ≡ true) (map (λ w. string_bytes w) words.now) (S.told site.old))) }
+    ensures read { C.reads clock.new ≡ min (C.reads clock.old + 1) last_count }
+    ensures no_pause { C.pauses clock.new ≡ C.pauses clock.old }
 {
-    match bind(alloc, words, site, clock) {
-        Ok(started) => match expect_no_record(alloc, site) {
-            Ok(()) => Ok(started),
+    match bind(alloc, request, site, clock) {
+        Ok(moment) => match expect_no_record(alloc, site) {
+            Ok(()) => Ok(moment),
             Err(e) => Err(e),
         },
         Err(e) => Err(e),
     }
 }
 
-// Looks at the words, reads the clock and names the roots.
+// Reads the clock and names the roots.
 fn bind<S: Site, C: Clock>(
     alloc: Global,
-    words: &[String],
+    request: &Request,
     site: &mut S,
-    clock: &mut C,
-) -> Result<Started, Outcome>
-    ensures job { IfOk result (λ started. started.job ≡ job_of (map (λ w. string_bytes w) words.now)) }
-    ensures moment { IfOk result (λ started. started.moment ≡ C.last clock.new) }
-    ensures clock { C.tells ≡ true → C.always clock.new ≡ C.always clock.old }
-    ensures same { S.tells ≡ true → S.told site.new ≡ S.told site.old }
-    ensures opened { S.opened site.new ≡ S.opened site.old }
-    ensures counts { (part : Part) → S.faults site.old part ≤ S.faults site.new part }
-    ensures accepted { OnOk result (refusal_of (map (λ w. string_bytes w) words.now) ≡ None) }
-    ensures cause { IfErr result (IsCaused (RisesIn (S.faults site.old) (S.faults site.new)) ⊥ (Stops (S.tells ≡ true) (map (λ w. string_bytes w) words.now) (S.told site.old))) }
-{
-    if let Some(refusal) = refusal_of(alloc, words) {
-        return Err(refusal);
-    }
-    match bind_roots(alloc, site, &words[0], &words[1], clock) {
-        Ok(moment) => Ok(Started {
-            job: job_of(words),
-            moment,
-        }),
-        Err(e) => Err(e),
-    }
-}
-
-// Reads the clock and names the roots.
-fn bind_roots<S: Site, C: Clock>(
-    alloc: Global,
-    site: &mut S,
-    source: &str,
-    target: &str,
     clock: &mut C,
 ) -> Result<Moment, Outcome>
+    ensures frame { Binds S.tells (run_cause result) (S.view site.old) (S.view site.new) }
+    ensures bound { IsBound result (binding_of request.now (C.last clock.new))
+        (S.view site.old).bound (S.view site.new).bound }
+    ensures ends { IfErr result (λ e. EndsAt at_roots at_roots ⊥ (ending e)) }
     ensures moment { IfOk result (λ moment. moment ≡ C.last clock.new) }
     ensures clock { C.tells ≡ true → C.always clock.new ≡ C.always clock.old }
-    ensures same { S.tells ≡ true → S.told site.new ≡ S.told site.old }
-    ensures opened { S.opened site.new ≡ S.opened site.old }
-    ensures counts { (part : Part) → S.faults site.old part ≤ S.faults site.new part }
-    ensures cause { IfErr result (IsCaused (RisesIn (S.faults site.old) (S.faults site.new)) ⊥ IsRootFault) }
+    ensures read { C.reads clock.new ≡ min (C.reads clock.old + 1) last_count }
+    ensures no_pause { C.pauses clock.new ≡ C.pauses clock.old }
 {
     let moment = clock.moment();
+    let (source, target) = (request.source.text(), request.target.text());
     match site.bind(alloc, source, target, Scan::Size, moment) {
         Ok(()) => Ok(Moment::new(moment)),
         Err(BindErr::Failed { side }) => Err(Outcome::RootFault { side }),
@@ -199,15 +220,17 @@ fn bind_roots<S: Site, C: Clock>(
 }
 
 fn expect_no_record<S: Site>(alloc: Global, site: &mut S) -> Result<(), Outcome>
-    ensures notes { S.tells ≡ true → OnOk result ((S.told site.old).notes ≡ []) }
-    ensures same { S.tells ≡ true → S.told site.new ≡ S.told site.old }
-    ensures opened { S.opened site.new ≡ S.opened site.old }
-    ensures counts { (part : Part) → S.faults site.old part ≤ S.faults site.new part }
-    ensures cause { IfErr result (IsCaused (RisesIn (S.faults site.old) (S.faults site.new)) ⊥ (IsRecordAnswer (S.tells ≡ true) (S.told site.old))) }
+    ensures frame { Looks S.tells (run_cause result) (S.view site.old) (S.view site.new) }
+    ensures no_record { S.tells ≡ true → OnOk result ((S.view site.old).told.notes ≡ []) }
+    ensures ends { IfErr result (λ e. EndsAt at_record at_record
+        ((e ≡ Outcome.NotYet Unbuilt.Record)
+        × (S.tells ≡ true → is_empty (S.view site.old).told.notes ≡ false)) (ending e)) }
 {
     match site.record_len(alloc) {
         Ok(0) => Ok(()),
-        Ok(_) => Err(Outcome::NotYet { what: 3 }),
+        Ok(_) => Err(Outcome::NotYet {
+            what: Unbuilt::Record,
+        }),
         Err(SiteErr::Failed) => Err(Outcome::RecordFault),
         Err(SiteErr::NoMemory) => Err(Outcome::NoMemory),
     }
@@ -221,22 +244,20 @@ fn plan<S: Site, C: Clock>(
     moment: Moment,
     clock: &C,
 ) -> Result<Plan, Outcome>
-    ensures plan { S.tells ≡ true → IfOk result (IsPlanOf (start_of job.now (S.told site.old).source (S.told site.old).target)) }
-    ensures moment { IfOk result (λ plan. plan.moment ≡ moment) }
-    ensures bytes { IfOk result (λ plan. plan.with_bytes ≡ job.now.copy.data_bytes) }
-    ensures rising { IfOk result (λ plan. are_rising plan.items ≡ true) }
-    ensures roots { IfOk result (λ plan. All (λ item. is_in_root (key_of item.path) ≡ true) plan.items) }
-    ensures small { IfOk result (λ plan. All (λ item. is_copy item.act ≡ true → item.facts.size ≤ 2 ^ 40) plan.items) }
-    ensures built { S.tells ≡ true → OnOk result (are_built (S.told site.old).source (S.told site.old).target ≡ true) }
-    ensures same { S.tells ≡ true → S.told site.new ≡ S.told site.old }
-    ensures opened { S.opened site.new ≡ S.opened site.old }
-    ensures counts { (part : Part) → S.faults site.old part ≤ S.faults site.new part }
-    ensures cause { IfErr result (IsCaused (RisesIn (S.faults site.old) (S.faults site.new)) ⊥ (IsTreesAnswer (S.tells ≡ true) (S.told site.old))) }
+    ensures frame { Looks S.tells (run_cause result) (S.view site.old) (S.view site.new) }
+    ensures plan { S.tells ≡ true → IfOk result (IsPlanOf (start_in job.now (S.view site.old).told)) }
+    ensures built { S.tells ≡ true → OnOk result (are_built job.now (S.view site.old).told ≡ true) }
+    ensures ends { IfErr result (λ e. EndsAt at_listing at_limits
+        ((e ≡ Outcome.NotYet Unbuilt.Trees)
+        × (S.tells ≡ true → are_built job.now (S.view site.old).told ≡ false)) (ending e)) }
+    ensures made { IfOk result (IsMadeFor job.now moment) }
 {
     match make_plan(alloc, job, moment, site, clock) {
         Ok(plan) => Ok(plan),
         Err(PlanErr::ListFault { side }) => Err(Outcome::ListFault { side }),
-        Err(PlanErr::NotBuilt) => Err(Outcome::NotYet { what: 2 }),
+        Err(PlanErr::NotBuilt) => Err(Outcome::NotYet {
+            what: Unbuilt::Trees,
+        }),
         Err(PlanErr::NoMemory) => Err(Outcome::NoMemory),
     }
 }
@@ -248,24 +269,33 @@ fn carry_out<S: Site, K: Sink>(
     sink: &mut K,
     job: &Job,
     plan: &Plan,
-) -> Result<(), Outcome>
-    requires plan { S.tells ≡ true → IsPlanOf (start_of job.now (S.told site.old).source (S.told site.old).target) plan.now }
-    requires bytes { plan.now.with_bytes ≡ job.now.copy.data_bytes }
-    requires rising { are_rising plan.now.items ≡ true }
-    requires roots { All (λ item. is_in_root (key_of item.path) ≡ true) plan.now.items }
-    requires small { All (λ item. is_copy item.act ≡ true → item.facts.size ≤ 2 ^ 40) plan.now.items }
+) -> Outcome
+    requires plan { S.tells ≡ true → IsPlanOf (start_in job.now (S.view site.old).told) plan.now }
+    requires made { IsMadeFor job.now plan.now.moment plan.now }
+    requires no_record { S.tells ≡ true → (S.view site.old).told.notes ≡ [] }
 
-    ensures mirrored { S.tells ≡ true → (S.told site.old).notes ≡ [] → OnOk result (IsMirrored (start_of job.now (S.told site.old).source (S.told site.old).target) plan.now.moment (S.told site.new)) }
-    ensures report { K.tells ≡ true → OnOk result (K.received sink.new ≡ K.received sink.old ++ report_of plan.now.items) }
-    ensures opened { OnOk result (S.opened site.new ≡ S.opened site.old ++ wants_of job.now.copy.data_bytes plan.now.items) }
-    ensures counts { (part : Part) → S.faults site.old part ≤ S.faults site.new part }
-    ensures cause { IfErr result (IsCaused (RisesIn (S.faults site.old) (S.faults site.new)) (Rose (K.faults sink.old) (K.faults sink.new)) IsLateFault) }
-    ensures kept { S.tells ≡ true → ((S.told site.new).source ≡ (S.told site.old).source) × ((S.told site.new).notes ≡ (S.told site.old).notes) }
-    ensures silent { IfErr result (λ e. IsBeforeReport e → K.received sink.new ≡ K.received sink.old) }
-    ensures front { K.tells ≡ true → OnErr result (AppendsFront (K.received sink.old) (report_of plan.now.items) (K.received sink.new)) }
-    ensures sink_fault { S.tells ≡ true → (S.told site.old).notes ≡ [] → IfErr result (λ e. e ≡ Outcome.SinkFault → IsMirrored (start_of job.now (S.told site.old).source (S.told site.old).target) plan.now.moment (S.told site.new)) }
+    ensures frame { CopiesFiles S.tells (cause_of (ending result)) (S.view site.old) (S.view site.new) }
+    ensures sink_cause { RisesIf (is_unreported (ending result)) (K.faults sink.old) (K.faults sink.new) }
+    ensures ends { EndsAt at_copies at_end ⊥ (ending result) }
+    ensures leaves { S.tells ≡ true →
+        Leaves job.now plan.now.moment (S.view site.old).told (S.view site.new).told result }
+    ensures opened { let wants = wants_of 0 job.now.copy.data_bytes plan.now.items in
+        let opened = (S.view site.new).opened in
+        ((opened ≡ (S.view site.old).opened) ⊎ (opened ≡ (S.view site.old).opened ++ wants))
+        × IfDone result (λ _ _. opened ≡ (S.view site.old).opened ++ wants) }
+    ensures items { S.tells ≡ true →
+        plan.now.items ≡ items_at job.now (S.view site.old).told plan.now.moment }
+    ensures bits { IfDone result (λ bits _. bits ≡ bits_of (totals_of plan.now.items)) }
+    ensures moment { IfDone result (λ _ moment. moment ≡ plan.now.moment) }
+    ensures whole { K.tells ≡ true → ending result ≡ finished →
+        K.received sink.new ≡ K.received sink.old ++ report_of plan.now.items }
+    ensures front { K.tells ≡ true →
+        AppendsFront (K.received sink.old) (report_of plan.now.items) (K.received sink.new) }
+    ensures silent { last_step (ending result) < at_report → K.received sink.new ≡ K.received sink.old }
+    ensures reported { S.tells ≡ true → (K.received sink.new ≡ K.received sink.old)
+        ⊎ IsMirrored (start_in job.now (S.view site.old).told) plan.now.moment (S.view site.new).told }
 {
-    let terms = Terms {
+    let copying = Copying {
         rules: rules(job),
         with_bytes: plan.with_bytes,
         moment: plan.moment,
@@ -273,21 +303,32 @@ fn carry_out<S: Site, K: Sink>(
     copies_are_of_files();
     files_are_copied_or_left();
     sources_stay();
-    match copy_items(alloc, site, &terms, plan.items.items()) {
+    plans_have_the_planned_items();
+    match copy_items(alloc, site, &copying, plan.items.items()) {
         Ok(()) => write_report(alloc, sink, plan),
-        Err(e) => Err(e),
+        Err(CopyErr::Failed { side }) => Outcome::SiteFault { side },
+        Err(CopyErr::NoMemory) => Outcome::NoMemory,
     }
 }
 
 // Writes the report of a plan.
-fn write_report<K: Sink>(alloc: Global, sink: &mut K, plan: &Plan) -> Result<(), Outcome>
-    ensures written { K.tells ≡ true → OnOk result (K.received sink.new ≡ K.received sink.old ++ report_of plan.now.items) }
-    ensures front { K.tells ≡ true → OnErr result (AppendsFront (K.received sink.old) (report_of plan.now.items) (K.received sink.new)) }
-    ensures cause { IfErr result (IsCaused (λ _. ⊥) (Rose (K.faults sink.old) (K.faults sink.new)) IsSinkFault) }
+fn write_report<K: Sink>(alloc: Global, sink: &mut K, plan: &Plan) -> Outcome
+    ensures sink_cause { RisesIf (is_unreported (ending result)) (K.faults sink.old) (K.faults sink.new) }
+    ensures ends { EndsAt at_report at_end ⊥ (ending result) }
+    ensures no_fault { cause_of (ending result) ≡ free }
+    ensures bits { IfDone result (λ bits _. bits ≡ bits_of (totals_of plan.now.items)) }
+    ensures moment { IfDone result (λ _ moment. moment ≡ plan.now.moment) }
+    ensures whole { K.tells ≡ true → ending result ≡ finished →
+        K.received sink.new ≡ K.received sink.old ++ report_of plan.now.items }
+    ensures front { K.tells ≡ true →
+        AppendsFront (K.received sink.old) (report_of plan.now.items) (K.received sink.new) }
 {
     match report_to(alloc, sink, plan) {
-        Ok(()) => Ok(()),
-        Err(SinkErr::Failed) => Err(Outcome::SinkFault),
-        Err(SinkErr::NoMemory) => Err(Outcome::NoMemory),
+        Ok(()) => Outcome::Done {
+            bits: bits(&count_totals(plan)),
+            moment: plan.moment.units(),
+        },
+        Err(SinkErr::Failed) => Outcome::SinkFault,
+        Err(SinkErr::NoMemory) => Outcome::NoMemory,
     }
 }

@@ -1,10 +1,12 @@
-ghost use Rattle.std.specs.Prelude.{◌≡◌, ◌≤◌, [], true, IfSome, is_none, is_some, length, map, option_map, string_bytes};
+//! The words of a run: what they ask for, or why they are refused.
+
+ghost use Rattle.std.specs.Prelude.{◌≡◌, ◌⊎◌, ◌<◌, ◌∷◌, [], IfErr, chars, is_some, map, option_map, string_bytes};
 ghost use Rattle.std.specs.List.{list_all, list_any};
 ghost use Rattle.std.specs.Str.{str_eq_ignore_ascii_case};
-ghost use Rattle.rc_run.specs.Outcome.{IsRefusal};
-ghost use Rattle.rc_run.specs.Words.{are_built, are_letters, are_roots, class_switches, copy_letters, copy_of, gives, has, has_letter, is_among, is_plain, is_switch, job_by, job_of, listed_letters, named_letters, refusal_of, usage};
+ghost use Rattle.rc_run.specs.Outcome.{at_roots, ending, first_step};
+ghost use Rattle.rc_run.specs.Words.{are_built, are_letters, are_roots, asked, asked_behind, class_switches, copy_letters, copy_of, gives, has, has_letter, is_among, is_plain, is_switch, job_by, lacks_word, listed_letters, named_letters, texts};
 
-use crate::Outcome;
+use crate::{Outcome, Unbuilt};
 use rc_job::{CopyFlags, Job};
 use rc_tree::Text;
 use std::alloc::Global;
@@ -14,29 +16,71 @@ const CLASS_SWITCHES: [&str; 9] = [
     "/FFT", "/DST", "/XC", "/XN", "/XO", "/XL", "/XX", "/IS", "/IT",
 ];
 
-/// Why the words are refused; none where they are two plain words, the roots of the source and of the target, and
-/// switches.
-pub(crate) fn refusal_of(alloc: Global, words: &[String]) -> Option<Outcome>
-    ensures value { result ≡ refusal_of (map (λ w. string_bytes w) words.now) }
-    ensures refuses { IfSome result IsRefusal }
-    ensures roots { is_none result ≡ true → 2 ≤ length words.now }
+/// What words ask for: two roots, as they are spelled, and a job.
+#[derive(Debug, Drop)]
+pub struct Request {
+    pub source: Text,
+    pub target: Text,
+    pub job: Job,
+}
+
+/// What the words ask for, or why they are refused.
+pub(crate) fn read_words(alloc: Global, words: &[String]) -> Result<Request, Outcome>
+    ensures asked { (result ≡ asked (texts words.now)) ⊎ (result ≡ Err Outcome.NoMemory) }
+    ensures early { IfErr result (λ e. first_step (ending e) < at_roots) }
 {
-    if !are_built(words) {
-        return Some(Outcome::NotYet { what: 1 });
-    }
-    match words.len() {
-        0 => Some(usage(alloc, 10)),
-        1 => Some(usage(alloc, 11)),
-        _ => None,
+    match words {
+        [] => Err(lacks_word(alloc, 10)),
+        [source] => Err(refuse_one(alloc, source)),
+        [source, target, switches @ ..] => read_behind(alloc, source, target, switches),
     }
 }
 
-/// The job that words ask for.
-pub(crate) fn job_of(words: &[String]) -> Job
-    requires { 2 ≤ length words.now }
-    ensures { result ≡ job_of (map (λ w. string_bytes w) words.now) }
+// Why one word is refused.
+fn refuse_one(alloc: Global, source: &str) -> Outcome
+    ensures asked { Err result ≡ asked (chars source.now ∷ []) }
+    ensures early { first_step (ending result) < at_roots }
 {
-    job_by(&words[2..])
+    if is_plain(source) {
+        lacks_word(alloc, 11)
+    } else {
+        Outcome::NotYet {
+            what: Unbuilt::Words,
+        }
+    }
+}
+
+// What two roots and switches behind them ask for.
+fn read_behind(
+    alloc: Global,
+    source: &str,
+    target: &str,
+    switches: &[String],
+) -> Result<Request, Outcome>
+    ensures asked { (result ≡ asked_behind (chars source.now) (chars target.now) (texts switches.now))
+        ⊎ (result ≡ Err Outcome.NoMemory) }
+    ensures early { IfErr result (λ e. first_step (ending e) < at_roots) }
+{
+    if !are_built(source, target, switches) {
+        return Err(Outcome::NotYet {
+            what: Unbuilt::Words,
+        });
+    }
+    match (Text::of(alloc, source), Text::of(alloc, target)) {
+        (Ok(source), Ok(target)) => Ok(Request {
+            source,
+            target,
+            job: job_by(switches),
+        }),
+        _ => Err(Outcome::NoMemory),
+    }
+}
+
+// Two plain roots, and switches that are built behind them.
+fn are_built(source: &str, target: &str, switches: &[String]) -> bool
+    ensures { result ≡ are_built source.now target.now (map (λ w. string_bytes w) switches.now) }
+{
+    are_roots(source, target) && are_switches(switches)
 }
 
 // The job that the words behind the roots ask for.
@@ -153,17 +197,6 @@ fn listed_letters(word: &str) -> Option<&[u8]>
     Some(&bytes[6..])
 }
 
-// At most two roots, and switches behind them.
-fn are_built(words: &[String]) -> bool
-    ensures { result ≡ are_built (map (λ w. string_bytes w) words.now) }
-{
-    match words {
-        [] => true,
-        [source] => is_plain(source),
-        [source, target, switches @ ..] => are_roots(source, target) && are_switches(switches),
-    }
-}
-
 // Two plain words that differ by more than ASCII case.
 fn are_roots(source: &str, target: &str) -> bool
     ensures { result ≡ are_roots source.now target.now }
@@ -217,8 +250,9 @@ fn is_same(a: &str, b: &str) -> bool
     a.eq_ignore_ascii_case(b)
 }
 
-fn usage(alloc: Global, kind: u8) -> Outcome
-    ensures { result ≡ usage kind }
+// The refusal of too few words.
+fn lacks_word(alloc: Global, kind: u8) -> Outcome
+    ensures { result ≡ lacks_word kind }
 {
     Outcome::Usage {
         file: Text::empty(alloc),

@@ -1,5 +1,5 @@
 -- Paths as lists of spellings, keys as lists of folded names, and the order of keys.
-use Rattle.std.specs.Prelude.{ℕ, ◌+◌, List, [], ◌∷◌, Option, None, Some, map, length, take, if◌then◌else◌, ◌==◌, nat_lt}
+use Rattle.std.specs.Prelude.{ℕ, ◌+◌, List, [], ◌∷◌, ◌++◌, Option, None, Some, map, length, take, if◌then◌else◌, ◌==◌, nat_lt}
 use Rattle.std.specs.List.{slice_split}
 use Rattle.std.specs.Ordering.{nat_cmp}
 use Rattle.std.specs.Cmp.Lexicographic.{slice_cmp}
@@ -49,3 +49,8 @@ name_cmp = slice_cmp nat_cmp
 
 abbrev pub key_cmp : List (List ℕ) → List (List ℕ) → Ordering
 key_cmp = slice_cmp name_cmp
+
+-- the least folded name behind a name, or of all
+abbrev pub floor_of : Option (List ℕ) → List ℕ
+floor_of None = []
+floor_of (Some name) = folded name ++ 0 ∷ []

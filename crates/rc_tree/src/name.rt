@@ -78,8 +78,8 @@ impl Name {
         self.text.as_str()
     }
 
-    // How the folded forms of two names stand.
-    pub(crate) fn cmp_folded(&self, other: &Name) -> Ordering
+    /// How the folded forms of two names stand, by the numbers of their characters. It takes no memory.
+    pub fn cmp_folded(&self, other: &Name) -> Ordering
         ensures { result ≡ name_cmp (folded self.now) (folded other.now) }
     {
         cmp_folded(&self.text, &other.text)

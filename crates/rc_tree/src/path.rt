@@ -1,7 +1,13 @@
 ghost use Rattle.std.specs.Prelude.{◌≡◌, ◌⊎◌, ◌≤◌, ◌<◌, None, Some, [], ◌∷◌, ◌++◌, length, take, chars, All, MatchOption, IfOk, IfErr, IsErrOf};
+ghost use Rattle.std.proofs.Common.{rules};
+ghost use Rattle.std.specs.Cmp.{eq_by_cmp_equiv, nat_cmp_total, partial_equiv_from_equiv, partial_order_from_own_ties};
+ghost use Rattle.std.specs.Cmp.Lexicographic.{lists_total};
+ghost use Rattle.std.specs.Cmp.Rules.{comparing};
+ghost use Rattle.std.specs.Option.{option_copied};
+ghost use Rattle.std.specs.Ordering.{as_partial_cmp, eq_by_cmp};
 ghost use Rattle.rc_tree.specs.declared.path.PathErr.TheVariants.{NoMemory as OutOfMemory};
 ghost use Rattle.rc_tree.specs.Name.{name_fault};
-ghost use Rattle.rc_tree.specs.Path.{names_in, path_fault, fault_at, parent_of, key_of, key_cmp};
+ghost use Rattle.rc_tree.specs.Path.{names_in, path_fault, fault_at, parent_of, key_of, key_cmp, floor_of};
 
 use crate::{Name, NameErr, NoMemory, Text};
 use std::alloc::{AllocError, AllocFailed, Global};
@@ -122,6 +128,7 @@ impl Path {
             return Err(PathErr::TooDeep);
         }
         let mut names = copy_names(alloc, &self.names)?;
+        names.reserve_exact(1)?;
         names.push(name.copy(alloc)?)?;
         Ok(Path { names })
     }
@@ -130,10 +137,21 @@ impl Path {
     pub fn key(&self, alloc: Global) -> Result<Key, NoMemory>
         ensures { IfOk result (λ key. key ≡ key_of self.now) }
     {
-        let mut names = Vec::new(alloc);
+        let mut names = Vec::with_capacity(alloc, self.names.len())?;
         for name in &self.names {
             names.push(Text::folded(alloc, name.text())?)?;
         }
+        Ok(Key { names })
+    }
+
+    /// The least key that an entry of the directory at this path could have behind the name `after`, or at all. What
+    /// stands below the entry of that name lies before it.
+    pub fn floor(&self, alloc: Global, after: Option<&Name>) -> Result<Key, NoMemory>
+        ensures { IfOk result
+            (λ floor. floor ≡ key_of self.now ++ floor_of (option_copied after.entry) ∷ []) }
+    {
+        let Key { mut names } = self.key(alloc)?;
+        names.push(floor_name(alloc, after)?)?;
         Ok(Key { names })
     }
 
@@ -182,11 +200,21 @@ fn read_part(alloc: Global, part: &str, place: usize) -> Result<Name, PathErr>
 fn copy_names(alloc: Global, names: &[Name]) -> Result<Vec<Name>, NoMemory>
     ensures { IfOk result (λ copy. copy.items ≡ names.now) }
 {
-    let mut copy = Vec::new(alloc);
+    let mut copy = Vec::with_capacity(alloc, names.len())?;
     for name in names {
         copy.push(name.copy(alloc)?)?;
     }
     Ok(copy)
+}
+
+// The least folded name behind the name `after`, or of all.
+fn floor_name(alloc: Global, after: Option<&Name>) -> Result<Text, NoMemory>
+    ensures { IfOk result (λ name. name ≡ floor_of (option_copied after.entry)) }
+{
+    match after {
+        Some(name) => Text::folded_below(alloc, name.text()),
+        None => Ok(Text::empty(alloc)),
+    }
 }
 
 // How the keys of two lists of names stand.
@@ -226,5 +254,44 @@ impl Key {
         ensures { result.now ≡ self.now }
     {
         self.names.as_slice()
+    }
+}
+
+// Keys are ordered as lists, and folded names by the numbers of their characters.
+impl PartialEq for Key {
+    ghost eq = { eq_by_cmp key_cmp };
+
+    ghost laws = { partial_equiv_from_equiv (eq_by_cmp_equiv (lists_total (lists_total nat_cmp_total))) };
+
+    fn eq(&self, other: &Key) -> bool {
+        self.cmp(other).is_eq()
+    }
+}
+
+impl Eq for Key {
+    ghost laws = { eq_by_cmp_equiv (lists_total (lists_total nat_cmp_total)) };
+}
+
+impl PartialOrd for Key {
+    ghost partial_cmp = { as_partial_cmp key_cmp };
+
+    ghost laws = { partial_order_from_own_ties (Prim.search (comparing, rules)) (Prim.search (comparing, rules)) };
+
+    fn partial_cmp(&self, other: &Key) -> Option<Ordering> {
+        Some(self.cmp(other))
+    }
+}
+
+impl Ord for Key {
+    ghost cmp = { key_cmp };
+
+    ghost total = { lists_total (lists_total nat_cmp_total) };
+
+    ghost matches_partial_cmp = { Prim.search (comparing, rules) };
+
+    ghost matches_eq = { Prim.search (comparing, rules) };
+
+    fn cmp(&self, other: &Key) -> Ordering {
+        self.names.cmp(&other.names)
     }
 }

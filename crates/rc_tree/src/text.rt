@@ -1,4 +1,9 @@
-ghost use Rattle.std.specs.Prelude.{◌≡◌, [], IfOk, chars};
+ghost use Rattle.std.specs.Prelude.{◌≡◌, [], ◌∷◌, ◌++◌, IfOk, chars};
+ghost use Rattle.std.proofs.Common.{rules};
+ghost use Rattle.std.specs.Cmp.{eq_by_cmp_equiv, nat_cmp_total, partial_equiv_from_equiv, partial_order_from_own_ties};
+ghost use Rattle.std.specs.Cmp.Lexicographic.{lists_total};
+ghost use Rattle.std.specs.Cmp.Rules.{comparing};
+ghost use Rattle.std.specs.Ordering.{as_partial_cmp, eq_by_cmp};
 ghost use Rattle.rc_tree.specs.Name.{folded};
 ghost use Rattle.rc_tree.specs.Path.{name_cmp};
 
@@ -42,13 +47,22 @@ impl Text {
         })
     }
 
-    // The text with the folded characters of `text`.
-    pub(crate) fn folded(alloc: Global, text: &str) -> Result<Text, NoMemory>
+    /// The text with the folded characters of `text`.
+    pub fn folded(alloc: Global, text: &str) -> Result<Text, NoMemory>
         ensures { IfOk result (λ made. made ≡ folded (chars text.now)) }
     {
         Ok(Text {
             text: text.chars().map(simple_fold).collect(alloc)?,
         })
+    }
+
+    // The text with the folded characters of `text` and the character 0 behind them.
+    pub(crate) fn folded_below(alloc: Global, text: &str) -> Result<Text, NoMemory>
+        ensures { IfOk result (λ made. made ≡ folded (chars text.now) ++ 0 ∷ []) }
+    {
+        let Text { mut text } = Text::folded(alloc, text)?;
+        text.push('\0')?;
+        Ok(Text { text })
     }
 
     /// Its characters.
@@ -71,4 +85,50 @@ impl Text {
     {
         Text::of(alloc, self.text())
     }
+}
+
+// Texts are ordered by the numbers of their characters.
+impl PartialEq for Text {
+    ghost eq = { eq_by_cmp name_cmp };
+
+    ghost laws = { partial_equiv_from_equiv (eq_by_cmp_equiv (lists_total nat_cmp_total)) };
+
+    fn eq(&self, other: &Text) -> bool {
+        self.cmp(other).is_eq()
+    }
+}
+
+impl Eq for Text {
+    ghost laws = { eq_by_cmp_equiv (lists_total nat_cmp_total) };
+}
+
+impl PartialOrd for Text {
+    ghost partial_cmp = { as_partial_cmp name_cmp };
+
+    ghost laws = { partial_order_from_own_ties (Prim.search (comparing, rules)) (Prim.search (comparing, rules)) };
+
+    fn partial_cmp(&self, other: &Text) -> Option<Ordering> {
+        Some(self.cmp(other))
+    }
+}
+
+impl Ord for Text {
+    ghost cmp = { name_cmp };
+
+    ghost total = { lists_total nat_cmp_total };
+
+    ghost matches_partial_cmp = { Prim.search (comparing, rules) };
+
+    ghost matches_eq = { Prim.search (comparing, rules) };
+
+    fn cmp(&self, other: &Text) -> Ordering {
+        cmp_chars(self.text(), other.text())
+    }
+}
+
+// How two texts stand, by the numbers of their characters.
+fn cmp_chars(a: &str, b: &str) -> Ordering
+    ensures { result ≡ name_cmp (chars a.now) (chars b.now) }
+{
+    a.chars().cmp(b.chars())
 }

@@ -1,4 +1,5 @@
 pub mod Faults
+pub mod Frames
 pub mod Reading
 pub mod Site
 pub mod Streams

@@ -1,5 +1,5 @@
--- What a site tells, and what its calls do to it.
-use Rattle.std.specs.Prelude.{◌≡◌, ◌≢◌, ◌⊎◌, ℕ, ◌+◌, ◌-◌, ◌≤◌, min, max, List, [], ◌∷◌, ◌++◌, Option, Some, None, length, take, drop, replicate, All, IsSome, IfSome, IsSomeAnd, MatchOption}
+-- What a site tells, and what stands at a key of it before and after a call.
+use Rattle.std.specs.Prelude.{◌≡◌, ◌≢◌, ◌⊎◌, ℕ, ◌+◌, ◌-◌, ◌<◌, ◌≤◌, min, max, List, [], ◌∷◌, ◌++◌, Option, Some, None, option_map, length, take, drop, replicate, All, IsSomeAnd, MatchOption, Result, Ok, Err}
 use Rattle.std.specs.FinMap.{get}
 use Rattle.std.specs.declared.cmp.Ordering.TheVariants.{Less}
 use Rattle.rc_tree.specs.declared.attr.Kind.TheVariants.{File, Dir}
@@ -10,17 +10,27 @@ use Rattle.rc_tree.specs.Name.{folded}
 use Rattle.rc_tree.specs.Path.{key_of, last_name, parent_of, name_cmp}
 use Rattle.rc_tree.specs.Tree.{Node, Tree, IsDirectory}
 use Rattle.rc_volume.specs.Reading.{Opens, part_of}
+use Rattle.rc_volume.specs.declared.binding.Binding.{Binding}
 use Rattle.rc_volume.specs.declared.want.Want.{Want}
+use Rattle.rc_volume.specs.declared.site.Part.{Part}
 use Rattle.rc_volume.specs.declared.site.Side.{Side}
 use Rattle.rc_volume.specs.declared.site.Side.TheVariants.{Source, Target}
-use Rattle.rc_volume.specs.declared.site.Part.{Part}
-use Rattle.rc_volume.specs.declared.site.Part.TheVariants as part
+use Rattle.rc_volume.specs.declared.site.SiteErr.{SiteErr}
+use Rattle.rc_volume.specs.declared.site.SiteErr.TheVariants as site_err
 
 -- the two trees and the bytes of the record
 pub record Told : Type 0 where
   pub source : Tree
   pub target : Tree
   pub notes : List ℕ
+
+-- all that contracts see of a site: what it tells, what readers were made for, what its roots were named, in order, and
+-- how often each part failed
+pub record Seen : Type 0 where
+  pub told : Told
+  pub opened : List Want
+  pub bound : List Binding
+  pub faults : Part → ℕ
 
 abbrev pub tree_of : Told → Side → Tree
 tree_of told Source = told.source
@@ -30,39 +40,31 @@ abbrev pub other_side : Side → Side
 other_side Source = Target
 other_side Target = Source
 
--- the part whose count a side's faults go to
-abbrev pub part_for : Side → Part
-part_for Source = part.Source
-part_for Target = part.Target
+-- the tree of a side
+abbrev pub tree_in : Seen → Side → Tree
+tree_in seen side = tree_of seen.told side
+
+-- what stands at a key of a side
+abbrev pub node_at : Told → Side → List (List ℕ) → Option Node
+node_at told side key = get (tree_of told side) key
 
 -- the bytes at a key: none where there is no file
 abbrev pub bytes_in : Option Node → List ℕ
 bytes_in None = []
 bytes_in (Some node) = node.bytes
 
--- Changes of one entry
-
--- but for the entry at this key of this side, what is told stands
-pub record ChangesOnly (side : Side) (key : List (List ℕ)) (old new : Told) : Type 0 where
-  pub others : (other : List (List ℕ)) → other ≢ key → get (tree_of new side) other ≡ get (tree_of old side) other
-  pub other_tree : tree_of new (other_side side) ≡ tree_of old (other_side side)
-  pub notes : new.notes ≡ old.notes
-
--- the node at a key went from one to another that the relation allows
-pub record Goes (allowed : Node → Node → Type 0) (before now : Option Node) : Type 0 where
-  pub old : Node
-  pub new : Node
-  pub was : before ≡ Some old
-  pub is : now ≡ Some new
-  pub by : allowed old new
+-- Nodes
 
 -- no attribute, both times 0, no security
 abbrev pub no_props : Props
 no_props = record { attr = no_attr; created = 0; written = 0; access = []; owner = []; audit = [] }
 
--- a file as it is made
+-- a file and a directory as they are made
 abbrev pub fresh_file : List ℕ → Node
 fresh_file name = record { spelling = name; kind = File; bytes = []; props = no_props }
+
+abbrev pub fresh_dir : List ℕ → Node
+fresh_dir name = record { spelling = name; kind = Dir; bytes = []; props = no_props }
 
 -- these bytes at this offset, and the others as they were
 abbrev pub written_at : ℕ → List ℕ → Node → Node
@@ -71,6 +73,9 @@ written_at off bytes node = record node { bytes = take off node.bytes ++ bytes +
 -- cut to a length, or filled up to it with 0
 abbrev pub resized : ℕ → Node → Node
 resized len node = record node { bytes = take len node.bytes ++ replicate (len - length node.bytes) 0 }
+
+abbrev pub with_props : Props → Node → Node
+with_props props node = record node { props = props }
 
 -- any bytes in a range, and all else as it was
 pub record IsTorn (off len : ℕ) (old new : Node) : Type 0 where
@@ -86,6 +91,62 @@ pub record IsHalfResized (len : ℕ) (old new : Node) : Type 0 where
   pub no_longer : length new.bytes ≤ max (length old.bytes) len
   pub front : take (min (length old.bytes) len) new.bytes ≡ take (min (length old.bytes) len) old.bytes
 
+-- What stands at a key before and after a call
+
+-- a relation between the two
+abbrev pub Change : Type 1
+Change = Option Node → Option Node → Type 0
+
+abbrev pub Stays : Change
+Stays old new = new ≡ old
+
+-- nothing is left
+abbrev pub Goes : Change
+Goes old new = new ≡ None
+
+-- this node stands there now
+abbrev pub Comes : Node → Change
+Comes node old new = new ≡ Some node
+
+-- the node became what the function makes of it
+abbrev pub Becomes : (Node → Node) → Change
+Becomes change old new = new ≡ option_map change old
+
+-- the node became one that the relation allows
+pub record Turns (allowed : Node → Node → Type 0) (old new : Option Node) : Type 0 where
+  pub before : Node
+  pub now : Node
+  pub was : old ≡ Some before
+  pub is : new ≡ Some now
+  pub by : allowed before now
+
+-- all as it was, or changed so
+abbrev pub Maybe : Change → Change
+Maybe change old new = Stays old new ⊎ change old new
+
+-- What the answer of a call that changes an entry says: at Ok it is done, where it failed it may be half done, and
+-- where memory was wanting all is as it was
+
+abbrev pub Done : {T : Type 0} → Result T SiteErr → Change → Change → Change
+Done (Ok value) done half = done
+Done (Err site_err.Failed) done half = half
+Done (Err site_err.NoMemory) done half = Stays
+
+abbrev pub Makes : {T : Type 0} → Result T SiteErr → Node → Change
+Makes result node = Done result (Comes node) (Maybe (Comes node))
+
+abbrev pub Puts : {T : Type 0} → Result T SiteErr → ℕ → List ℕ → Change
+Puts result off bytes = Done result (Becomes (written_at off bytes)) (Turns (IsTorn off (length bytes)))
+
+abbrev pub Resizes : {T : Type 0} → Result T SiteErr → ℕ → Change
+Resizes result len = Done result (Becomes (resized len)) (Turns (IsHalfResized len))
+
+abbrev pub SetsProps : {T : Type 0} → Result T SiteErr → Props → Change
+SetsProps result props = Done result (Becomes (with_props props)) (Maybe (Becomes (with_props props)))
+
+abbrev pub Removes : {T : Type 0} → Result T SiteErr → Change
+Removes result = Done result Goes (Maybe Goes)
+
 -- Conditions
 
 -- nothing stands at the path, and its parent is the root or a directory
@@ -96,6 +157,11 @@ pub record IsVacant (tree : Tree) (path : List (List ℕ)) : Type 0 where
 -- a file stands at the key, of which this holds
 abbrev pub HasFile : Tree → List (List ℕ) → (Node → Type 0) → Type 0
 HasFile tree key holds = IsSomeAnd (get tree key) (λ node. (node.kind ≡ File) × holds node)
+
+-- an entry stands at the key, and where it is a directory nothing in it
+abbrev pub IsRemovable : Tree → List (List ℕ) → Type 0
+IsRemovable tree key =
+    IsSomeAnd (get tree key) (λ node. node.kind ≡ Dir → (name : List ℕ) → get tree (key ++ name ∷ []) ≡ None)
 
 -- the ranges of a want lie within a file of the tree
 abbrev pub IsWithin : Tree → Want → Type 0
@@ -127,6 +193,13 @@ IsEnd tree dir after = (name : List ℕ) → ComesAfter after name → get tree 
 -- what a listing of a directory answers
 abbrev pub Lists : Tree → List (List ℕ) → Option (List ℕ) → Option Entry → Type 0
 Lists tree dir after found = MatchOption found (IsEnd tree dir after) (IsNext tree dir after)
+
+-- what every listing answers, told or not: an entry that comes behind that name, with no size where it is a directory,
+-- and none below a path of 64 names
+pub record IsListed (names : ℕ) (after : Option (List ℕ)) (entry : Entry) : Type 0 where
+  pub later : ComesAfter after (folded entry.name)
+  pub no_size : entry.kind ≡ Dir → entry.size ≡ 0
+  pub depth : names < 64
 
 -- Reading
 

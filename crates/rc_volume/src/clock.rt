@@ -1,7 +1,12 @@
-ghost use Rattle.std.specs.Prelude.{◌≡◌, ◌≤◌, ℕ, Bool, true};
-ghost use Rattle.rc_tree.specs.declared.moment.TheConstants.{GREATEST_MOMENT};
+//! The clock of a run.
 
-/// What tells the time.
+ghost use Rattle.std.specs.Prelude.{◌≡◌, ◌+◌, ◌≤◌, ℕ, Bool, true, min};
+ghost use Rattle.rc_tree.specs.declared.moment.TheConstants.{GREATEST_MOMENT};
+ghost use Rattle.rc_volume.specs.Faults.{last_count};
+
+/// What tells the time, and waits.
+///
+/// It keeps how often it was read and how often it paused; these counts stop at the greatest number of their type.
 pub trait Clock {
     /// Whether the clock tells the one moment that it always answers.
     ghost tells: { Bool };
@@ -12,13 +17,25 @@ pub trait Clock {
     /// The moment that it answered last.
     ghost last: { Self → ℕ };
 
+    /// How often it was read.
+    ghost reads: { Self → ℕ };
+
+    /// How often it paused.
+    ghost pauses: { Self → ℕ };
+
     /// The present moment: 100-nanosecond units since 1 January 1601 UTC, at most [`rc_tree::GREATEST_MOMENT`].
     fn moment(&mut self) -> u64
         ensures bound { result ≤ GREATEST_MOMENT }
         ensures last { last self.new ≡ result }
         ensures fixed { tells ≡ true → result ≡ always self.old }
-        ensures same { tells ≡ true → always self.new ≡ always self.old };
+        ensures same { tells ≡ true → always self.new ≡ always self.old }
+        ensures read { reads self.new ≡ min (reads self.old + 1) last_count }
+        ensures no_pause { pauses self.new ≡ pauses self.old };
 
-    /// Waits for about so many seconds. Nothing is promised of it.
-    fn pause(&self, seconds: u32);
+    /// Waits for about so many seconds, of which nothing is promised.
+    fn pause(&mut self, seconds: u32)
+        ensures last { last self.new ≡ last self.old }
+        ensures same { tells ≡ true → always self.new ≡ always self.old }
+        ensures no_read { reads self.new ≡ reads self.old }
+        ensures paused { pauses self.new ≡ min (pauses self.old + 1) last_count };
 }

@@ -1,5 +1,8 @@
+//! An input of bytes.
+
 ghost use Rattle.std.specs.Prelude.{◌≡◌, ◌≤◌, ◌<◌, ◌↔◌, ℕ, Bool, true, List, [], ◌++◌, length, take, IfOk, OnErr};
-ghost use Rattle.rc_volume.specs.Faults.{HasCause};
+ghost use Rattle.rc_volume.specs.Faults.{RisesIf};
+ghost use Rattle.rc_volume.specs.Streams.{input_failed};
 
 use std::alloc::Global;
 use thiserror::Error;
@@ -28,8 +31,9 @@ pub trait Input {
     fn read(&mut self, alloc: Global, buf: &mut [u8]) -> Result<usize, InputErr>
         requires { 0 < length buf.old }
         ensures bound { IfOk result (λ n. n ≤ length buf.new) }
-        ensures taken { tells ≡ true → IfOk result (λ n. rest self.old ≡ take n buf.new ++ rest self.new) }
+        ensures taken { tells ≡ true → IfOk result
+            (λ n. rest self.old ≡ take n buf.new ++ rest self.new) }
         ensures end { tells ≡ true → IfOk result (λ n. (n ≡ 0) ↔ (rest self.old ≡ [])) }
         ensures kept { tells ≡ true → OnErr result (rest self.new ≡ rest self.old) }
-        ensures cause { HasCause (faults self.old) (faults self.new) InputErr.Failed result };
+        ensures cause { RisesIf (input_failed result) (faults self.old) (faults self.new) };
 }

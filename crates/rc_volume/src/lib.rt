@@ -2,11 +2,14 @@
 //! clock, the sink of the report, the store of job files and the input.
 //!
 //! A trait's ghost members say what an object holds, where it tells that (`tells`), and how often its parts failed.
-//! Each call says what it needs, what it answers, what it changes and what stays; that an answer `Failed` comes only
-//! where a count of faults rose in that call; and what a failed call may leave. A site over memory tells everything,
-//! one over host folders nothing: all that is said under `tells` is promised of the first alone.
+//! Each call says what it needs, what it answers, what it changes and what stays; that a count of faults rises where
+//! the call answers `Failed`, and at no other answer; and what a failed call may leave. A site over memory tells
+//! everything, one over host folders nothing: all that is said under `tells` is promised of the first alone.
+//!
+//! All that contracts see of a site is one value, its view; what a call leaves of it is one clause, the call's frame.
 #![tactic(auto)]
 
+mod binding;
 mod clock;
 mod input;
 mod job_store;
@@ -15,6 +18,7 @@ mod sink;
 mod site;
 mod want;
 
+pub use binding::Binding;
 pub use clock::Clock;
 pub use input::{Input, InputErr};
 pub use job_store::{JobStore, StoreErr};

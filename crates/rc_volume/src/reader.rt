@@ -1,6 +1,9 @@
-ghost use Rattle.std.specs.Prelude.{◌≡◌, ◌≢◌, ℕ, Bool, true, List, length, OnOk, IsErrOf};
+//! The reader of source bytes, beside the site.
+
+ghost use Rattle.std.specs.Prelude.{◌≡◌, ℕ, Bool, true, List, length, OnOk};
 ghost use Rattle.rc_tree.specs.Path.{key_of};
-ghost use Rattle.rc_volume.specs.Faults.{HasCause};
+ghost use Rattle.rc_volume.specs.Faults.{RisesIf};
+ghost use Rattle.rc_volume.specs.Streams.{read_failed};
 ghost use Rattle.rc_volume.specs.Reading.{part_of, Opens};
 ghost use Rattle.rc_volume.specs.declared.want.Want.{Want};
 
@@ -52,7 +55,7 @@ pub trait Reader {
         buf: &mut [u8],
     ) -> Result<(), ReadErr>
         requires { Opens (wants self.now) (key_of path.now) off (length buf.old) }
-        ensures filled { tells ≡ true → OnOk result (buf.new ≡ part_of off (length buf.old) (bytes self.now (key_of path.now))) }
-        ensures cause { HasCause (count tally.old) (count tally.new) ReadErr.Failed result }
-        ensures others { (result ≢ Err ReadErr.Failed) → count tally.new ≡ count tally.old };
+        ensures filled { tells ≡ true → OnOk result
+            (buf.new ≡ part_of off (length buf.old) (bytes self.now (key_of path.now))) }
+        ensures cause { RisesIf (read_failed result) (count tally.old) (count tally.new) };
 }

@@ -1,6 +1,8 @@
+//! A sink of bytes.
+
 ghost use Rattle.std.specs.Prelude.{◌≡◌, ℕ, Bool, true, List, ◌++◌, OnOk, OnErr};
-ghost use Rattle.rc_volume.specs.Faults.{HasCause};
-ghost use Rattle.rc_volume.specs.Streams.{AppendsFront};
+ghost use Rattle.rc_volume.specs.Faults.{RisesIf};
+ghost use Rattle.rc_volume.specs.Streams.{AppendsFront, sink_failed};
 
 use std::alloc::Global;
 use thiserror::Error;
@@ -26,7 +28,9 @@ pub trait Sink {
 
     /// Adds the bytes. After an error it received a front of them.
     fn write(&mut self, alloc: Global, bytes: &[u8]) -> Result<(), SinkErr>
-        ensures written { tells ≡ true → OnOk result (received self.new ≡ received self.old ++ bytes.now) }
-        ensures front { tells ≡ true → OnErr result (AppendsFront (received self.old) bytes.now (received self.new)) }
-        ensures cause { HasCause (faults self.old) (faults self.new) SinkErr.Failed result };
+        ensures written { tells ≡ true → OnOk result
+            (received self.new ≡ received self.old ++ bytes.now) }
+        ensures front { tells ≡ true → OnErr result
+            (AppendsFront (received self.old) bytes.now (received self.new)) }
+        ensures cause { RisesIf (sink_failed result) (faults self.old) (faults self.new) };
 }

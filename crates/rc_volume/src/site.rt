@@ -1,14 +1,15 @@
-ghost use Rattle.std.specs.Prelude.{◌≡◌, ◌⊎◌, ◌+◌, ◌^◌, ⊤, ◌≤◌, ◌<◌, ℕ, Bool, true, List, ◌++◌, Some, min, length, All, IfOk, OnOk, OnErr, IfSome, IsSome, IsErrOf, option_map};
+//! The site of a mirror: its two trees and the record of a run.
+
+ghost use Rattle.std.specs.Prelude.{◌≡◌, ◌+◌, ◌^◌, ◌≤◌, ◌<◌, ⊤, true, Bool, List, ◌++◌, chars, length, All, IfOk, IfSome, IsSome, option_map};
+ghost use Rattle.std.specs.Option.{option_copied};
 ghost use Rattle.std.specs.FinMap.{get};
 ghost use Rattle.rc_tree.specs.declared.attr.Kind.TheVariants.{Dir};
 ghost use Rattle.rc_tree.specs.declared.moment.TheConstants.{GREATEST_MOMENT};
-ghost use Rattle.rc_tree.specs.Name.{folded};
 ghost use Rattle.rc_tree.specs.Path.{key_of, last_name};
-ghost use Rattle.rc_tree.specs.Tree.{IsDirectory};
-ghost use Rattle.rc_volume.specs.declared.want.Want.{Want};
-ghost use Rattle.rc_volume.specs.declared.site.Part.{Part};
-ghost use Rattle.rc_volume.specs.Faults.{Rose, HasCause, last_count};
-ghost use Rattle.rc_volume.specs.Site.{Told, tree_of, part_for, ChangesOnly, Goes, fresh_file, written_at, resized, IsTorn, IsHalfResized, IsVacant, HasFile, entry_of, IsWithin, ComesAfter, Lists, ReadsFrom};
+ghost use Rattle.rc_tree.specs.Tree.{IsDirectory, IsTree};
+ghost use Rattle.rc_volume.specs.Faults.{bind_cause, part_cause, side_cause};
+ghost use Rattle.rc_volume.specs.Frames.{Absorbs, Binds, ChangesAt, IsBound, Looks, MakesReader, opened_by};
+ghost use Rattle.rc_volume.specs.Site.{Seen, tree_in, node_at, fresh_dir, fresh_file, entry_of, Makes, Puts, Removes, Resizes, SetsProps, IsVacant, IsRemovable, IsWithin, HasFile, IsListed, Lists, ReadsFrom};
 
 use crate::{Reader, Want};
 use rc_tree::{Entry, Name, Path, Props, Scan};
@@ -50,8 +51,10 @@ pub enum BindErr {
 
 /// The two trees, and the record of a run in bytes.
 ///
-/// After `NoMemory` what is told is as before, and after `Failed` what the call's clause `failed` says. A call that
-/// changes an entry leaves all other entries, the other tree and the record as they were, whatever it answers.
+/// Each call says in one clause, its frame, what it leaves as it was and which count of faults its answer raised, and
+/// in others what it answers. A call that changes an entry leaves all other entries, the other tree and the record as
+/// they were, whatever it answers; after `NoMemory` the entry is as it was too, and after `Failed` it may be half
+/// changed.
 pub trait Site {
     /// What the readers of the source count their failed reads in.
     type Tally: Send + Drop;
@@ -61,14 +64,9 @@ pub trait Site {
     /// Whether the site tells its trees and its record.
     ghost tells: { Bool };
 
-    /// The trees and the record's bytes.
-    ghost told: { Self → Told };
-
-    /// How often a part failed. Counts never fall, and stop at the greatest number of their type.
-    ghost faults: { Self → Part → ℕ };
-
-    /// What readers were made for, in order.
-    ghost opened: { Self → List Want };
+    /// All that contracts see of the site. What is told means something where the site tells; counts of faults never
+    /// fall, and stop at the greatest number of their type.
+    ghost view: { Self → Seen };
 
     /// Names the two roots, says how changes of files are found, and at which moment the run began. A site that tells
     /// its trees ignores the two texts.
@@ -81,10 +79,10 @@ pub trait Site {
         moment: u64,
     ) -> Result<(), BindErr>
         requires { moment ≤ GREATEST_MOMENT }
-        ensures same { tells ≡ true → told self.new ≡ told self.old }
-        ensures opened { opened self.new ≡ opened self.old }
-        ensures counts { (part : Part) → faults self.old part ≤ faults self.new part }
-        ensures cause { (side : _) → IsErrOf result (BindErr.Failed side) → Rose (faults self.old (part_for side)) (faults self.new (part_for side)) };
+        ensures frame { Binds tells (bind_cause result) (view self.old) (view self.new) }
+        ensures bound { IsBound result
+            (record { source = chars source.now; target = chars target.now; scan = scan; moment = moment })
+            (view self.old).bound (view self.new).bound };
 
     /// The entry of a directory with the least folded name above that of `after`, or the first one; none at the end.
     fn next_entry(
@@ -94,37 +92,38 @@ pub trait Site {
         dir: &Path,
         after: Option<&Name>,
     ) -> Result<Option<Entry>, SiteErr>
-        requires { tells ≡ true → IsDirectory (tree_of (told self.old) side) (key_of dir.now) }
-        ensures listed { tells ≡ true → IfOk result (Lists (tree_of (told self.old) side) (key_of dir.now) (option_map (λ name. name.now) after.entry)) }
+        requires { tells ≡ true → IsDirectory (tree_in (view self.old) side) (key_of dir.now) }
+        ensures frame { Looks tells (side_cause side result) (view self.old) (view self.new) }
+        ensures tree { tells ≡ true → IsTree (tree_in (view self.old) side) }
+        ensures listed { tells ≡ true → IfOk result
+            (Lists (tree_in (view self.old) side) (key_of dir.now) (option_copied after.entry)) }
         // On every site, told or not.
-        ensures rising { IfOk result (λ found. IfSome found (λ entry. ComesAfter (option_map (λ name. name.now) after.entry) (folded entry.name))) }
-        ensures depth { IfOk result (λ found. IsSome found → length dir.now < 64) }
-        ensures directory { IfOk result (λ found. IfSome found (λ entry. entry.kind ≡ Dir → entry.size ≡ 0)) }
-        ensures same { tells ≡ true → told self.new ≡ told self.old }
-        ensures opened { opened self.new ≡ opened self.old }
-        ensures counts { (part : Part) → faults self.old part ≤ faults self.new part }
-        ensures cause { HasCause (faults self.old (part_for side)) (faults self.new (part_for side)) SiteErr.Failed result };
+        ensures rising { IfOk result
+            (λ found. IfSome found (IsListed (length dir.now) (option_copied after.entry))) };
 
     /// The entry at the key of a path that is not the root; none where nothing stands there.
     fn stat(&mut self, alloc: Global, side: Side, path: &Path) -> Result<Option<Entry>, SiteErr>
         requires { 0 < length path.now }
-        ensures found { tells ≡ true → IfOk result (λ found. found ≡ option_map entry_of (get (tree_of (told self.old) side) (key_of path.now))) }
-        ensures directory { IfOk result (λ found. IfSome found (λ entry. entry.kind ≡ Dir → entry.size ≡ 0)) }
-        ensures same { tells ≡ true → told self.new ≡ told self.old }
-        ensures opened { opened self.new ≡ opened self.old }
-        ensures counts { (part : Part) → faults self.old part ≤ faults self.new part }
-        ensures cause { HasCause (faults self.old (part_for side)) (faults self.new (part_for side)) SiteErr.Failed result };
+        ensures frame { Looks tells (side_cause side result) (view self.old) (view self.new) }
+        ensures tree { tells ≡ true → IsTree (tree_in (view self.old) side) }
+        ensures found { tells ≡ true → IfOk result
+            (λ found. found ≡ option_map entry_of (node_at (view self.old).told side (key_of path.now))) }
+        ensures no_size { IfOk result
+            (λ found. IfSome found (λ entry. entry.kind ≡ Dir → entry.size ≡ 0)) };
+
+    /// Makes a directory without entries, attributes and security, and with both times 0.
+    fn make_dir(&mut self, alloc: Global, side: Side, path: &Path) -> Result<(), SiteErr>
+        requires { tells ≡ true → IsVacant (tree_in (view self.old) side) path.now }
+        ensures { ChangesAt tells side (key_of path.now)
+            (Makes result (fresh_dir (last_name path.now)))
+            (side_cause side result) (view self.old) (view self.new) };
 
     /// Makes a file without bytes, attributes and security, and with both times 0.
     fn make_file(&mut self, alloc: Global, side: Side, path: &Path) -> Result<(), SiteErr>
-        requires { tells ≡ true → IsVacant (tree_of (told self.old) side) path.now }
-        ensures made { tells ≡ true → OnOk result (get (tree_of (told self.new) side) (key_of path.now) ≡ Some (fresh_file (last_name path.now))) }
-        ensures failed { tells ≡ true → IsErrOf result SiteErr.Failed → (told self.new ≡ told self.old) ⊎ (get (tree_of (told self.new) side) (key_of path.now) ≡ Some (fresh_file (last_name path.now))) }
-        ensures out_of_memory { tells ≡ true → IsErrOf result SiteErr.NoMemory → told self.new ≡ told self.old }
-        ensures others { tells ≡ true → ChangesOnly side (key_of path.now) (told self.old) (told self.new) }
-        ensures opened { opened self.new ≡ opened self.old }
-        ensures counts { (part : Part) → faults self.old part ≤ faults self.new part }
-        ensures cause { HasCause (faults self.old (part_for side)) (faults self.new (part_for side)) SiteErr.Failed result };
+        requires { tells ≡ true → IsVacant (tree_in (view self.old) side) path.now }
+        ensures { ChangesAt tells side (key_of path.now)
+            (Makes result (fresh_file (last_name path.now)))
+            (side_cause side result) (view self.old) (view self.new) };
 
     /// Writes bytes at an offset of a file, within its length.
     fn put(
@@ -136,26 +135,18 @@ pub trait Site {
         bytes: &[u8],
     ) -> Result<(), SiteErr>
         requires some_bytes { 0 < length bytes.now }
-        requires within { tells ≡ true → HasFile (tree_of (told self.old) side) (key_of path.now) (λ node. off + length bytes.now ≤ length node.bytes) }
-        ensures written { tells ≡ true → OnOk result (Goes (λ node after. after ≡ written_at off bytes.now node) (get (tree_of (told self.old) side) (key_of path.now)) (get (tree_of (told self.new) side) (key_of path.now))) }
-        ensures failed { tells ≡ true → IsErrOf result SiteErr.Failed → Goes (IsTorn off (length bytes.now)) (get (tree_of (told self.old) side) (key_of path.now)) (get (tree_of (told self.new) side) (key_of path.now)) }
-        ensures out_of_memory { tells ≡ true → IsErrOf result SiteErr.NoMemory → told self.new ≡ told self.old }
-        ensures others { tells ≡ true → ChangesOnly side (key_of path.now) (told self.old) (told self.new) }
-        ensures opened { opened self.new ≡ opened self.old }
-        ensures counts { (part : Part) → faults self.old part ≤ faults self.new part }
-        ensures cause { HasCause (faults self.old (part_for side)) (faults self.new (part_for side)) SiteErr.Failed result };
+        requires within { tells ≡ true → HasFile (tree_in (view self.old) side) (key_of path.now)
+            (λ node. off + length bytes.now ≤ length node.bytes) }
+        ensures { ChangesAt tells side (key_of path.now) (Puts result off bytes.now)
+            (side_cause side result) (view self.old) (view self.new) };
 
     /// Brings a file to a length of at most 2^40 bytes. Bytes that come are 0.
     fn set_len(&mut self, alloc: Global, side: Side, path: &Path, len: u64) -> Result<(), SiteErr>
         requires bound { len ≤ 2 ^ 40 }
-        requires file { tells ≡ true → HasFile (tree_of (told self.old) side) (key_of path.now) (λ _. ⊤) }
-        ensures resized { tells ≡ true → OnOk result (Goes (λ node after. after ≡ resized len node) (get (tree_of (told self.old) side) (key_of path.now)) (get (tree_of (told self.new) side) (key_of path.now))) }
-        ensures failed { tells ≡ true → IsErrOf result SiteErr.Failed → Goes (IsHalfResized len) (get (tree_of (told self.old) side) (key_of path.now)) (get (tree_of (told self.new) side) (key_of path.now)) }
-        ensures out_of_memory { tells ≡ true → IsErrOf result SiteErr.NoMemory → told self.new ≡ told self.old }
-        ensures others { tells ≡ true → ChangesOnly side (key_of path.now) (told self.old) (told self.new) }
-        ensures opened { opened self.new ≡ opened self.old }
-        ensures counts { (part : Part) → faults self.old part ≤ faults self.new part }
-        ensures cause { HasCause (faults self.old (part_for side)) (faults self.new (part_for side)) SiteErr.Failed result };
+        requires file { tells ≡ true →
+            HasFile (tree_in (view self.old) side) (key_of path.now) (λ _. ⊤) }
+        ensures { ChangesAt tells side (key_of path.now) (Resizes result len)
+            (side_cause side result) (view self.old) (view self.new) };
 
     /// Gives an entry these properties.
     fn set_props(
@@ -165,44 +156,36 @@ pub trait Site {
         path: &Path,
         props: &Props,
     ) -> Result<(), SiteErr>
-        requires { tells ≡ true → IsSome (get (tree_of (told self.old) side) (key_of path.now)) }
-        ensures set { tells ≡ true → OnOk result (Goes (λ node after. after ≡ record node { props = props.now }) (get (tree_of (told self.old) side) (key_of path.now)) (get (tree_of (told self.new) side) (key_of path.now))) }
-        ensures failed { tells ≡ true → IsErrOf result SiteErr.Failed → (told self.new ≡ told self.old) ⊎ Goes (λ node after. after ≡ record node { props = props.now }) (get (tree_of (told self.old) side) (key_of path.now)) (get (tree_of (told self.new) side) (key_of path.now)) }
-        ensures out_of_memory { tells ≡ true → IsErrOf result SiteErr.NoMemory → told self.new ≡ told self.old }
-        ensures others { tells ≡ true → ChangesOnly side (key_of path.now) (told self.old) (told self.new) }
-        ensures opened { opened self.new ≡ opened self.old }
-        ensures counts { (part : Part) → faults self.old part ≤ faults self.new part }
-        ensures cause { HasCause (faults self.old (part_for side)) (faults self.new (part_for side)) SiteErr.Failed result };
+        requires { tells ≡ true → IsSome (node_at (view self.old).told side (key_of path.now)) }
+        ensures { ChangesAt tells side (key_of path.now) (SetsProps result props.now)
+            (side_cause side result) (view self.old) (view self.new) };
+
+    /// Removes a file, or a directory that has no entries.
+    fn remove(&mut self, alloc: Global, side: Side, path: &Path) -> Result<(), SiteErr>
+        requires { tells ≡ true → IsRemovable (tree_in (view self.old) side) (key_of path.now) }
+        ensures { ChangesAt tells side (key_of path.now) (Removes result)
+            (side_cause side result) (view self.old) (view self.new) };
 
     /// Makes what was changed on a side durable.
     fn sync(&mut self, alloc: Global, side: Side) -> Result<(), SiteErr>
-        ensures same { tells ≡ true → told self.new ≡ told self.old }
-        ensures opened { opened self.new ≡ opened self.old }
-        ensures counts { (part : Part) → faults self.old part ≤ faults self.new part }
-        ensures cause { HasCause (faults self.old (part_for side)) (faults self.new (part_for side)) SiteErr.Failed result };
+        ensures { Looks tells (side_cause side result) (view self.old) (view self.new) };
 
     /// How many bytes the record has.
     fn record_len(&mut self, alloc: Global) -> Result<u64, SiteErr>
-        ensures length { tells ≡ true → IfOk result (λ len. len ≡ length (told self.old).notes) }
-        ensures same { tells ≡ true → told self.new ≡ told self.old }
-        ensures opened { opened self.new ≡ opened self.old }
-        ensures counts { (part : Part) → faults self.old part ≤ faults self.new part }
-        ensures cause { HasCause (faults self.old Part.Record) (faults self.new Part.Record) SiteErr.Failed result };
+        ensures frame { Looks tells (part_cause Part.Record result) (view self.old) (view self.new) }
+        ensures length { tells ≡ true → IfOk result
+            (λ len. len ≡ length (view self.old).told.notes) };
 
     /// A reader of these ranges, which lie within files of the source. Its fault counts on the source.
     fn reader(&mut self, alloc: Global, wants: Vec<Want>) -> Result<Self::Reader, SiteErr>
-        requires { tells ≡ true → All (IsWithin (told self.old).source) wants.items }
-        ensures wants { IfOk result (λ reader. (opened self.new ≡ opened self.old ++ wants.items) × (Self.Reader.wants reader ≡ wants.items)) }
-        ensures bytes { tells ≡ true → IfOk result (λ reader. (Self.Reader.tells ≡ true) × ReadsFrom (told self.old).source wants.items (Self.Reader.bytes reader)) }
-        ensures opened { OnErr result (opened self.new ≡ opened self.old) }
-        ensures same { tells ≡ true → told self.new ≡ told self.old }
-        ensures counts { (part : Part) → faults self.old part ≤ faults self.new part }
-        ensures cause { HasCause (faults self.old Part.Source) (faults self.new Part.Source) SiteErr.Failed result };
+        requires { tells ≡ true → All (IsWithin (view self.old).told.source) wants.items }
+        ensures frame { MakesReader tells (opened_by result wants.items (view self.old).opened)
+            (part_cause Part.Source result) (view self.old) (view self.new) }
+        ensures wants { IfOk result (λ reader. Self.Reader.wants reader ≡ wants.items) }
+        ensures bytes { tells ≡ true → IfOk result (λ reader. (Self.Reader.tells ≡ true)
+            × ReadsFrom (view self.old).told.source wants.items (Self.Reader.bytes reader)) };
 
     /// Adds the failed reads of a tally to the source's count.
     fn absorb(&mut self, tally: Self::Tally)
-        ensures added { faults self.new Part.Source ≡ min (faults self.old Part.Source + Self.Reader.count tally) last_count }
-        ensures same { tells ≡ true → told self.new ≡ told self.old }
-        ensures opened { opened self.new ≡ opened self.old }
-        ensures counts { (part : Part) → faults self.old part ≤ faults self.new part };
+        ensures { Absorbs tells (Self.Reader.count tally) (view self.old) (view self.new) };
 }

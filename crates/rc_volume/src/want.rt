@@ -1,3 +1,5 @@
+//! What a reader is made for.
+
 ghost use Rattle.std.specs.Prelude.{◌≡◌, IfOk};
 
 use rc_tree::{NoMemory, Path};

@@ -1,5 +1,7 @@
+//! The lines and statuses of outcomes.
+
 use super::T0;
-use crate::{Outcome, outcome_text, status};
+use crate::{Outcome, Unbuilt, outcome_text, status};
 use rc_tree::Text;
 use rc_volume::Side;
 use std::test::Fail;
@@ -35,7 +37,27 @@ fn names_outcomes(rt: HostRuntime) -> Result<(), Fail> {
             "ERROR: usage U2 at word 3 of job file night.rcj",
             16,
         ),
-        (Outcome::NotYet { what: 2 }, "ERROR: not built yet: 2", 16),
+        (
+            Outcome::NotYet {
+                what: Unbuilt::Words,
+            },
+            "ERROR: not built yet: 1",
+            16,
+        ),
+        (
+            Outcome::NotYet {
+                what: Unbuilt::Trees,
+            },
+            "ERROR: not built yet: 2",
+            16,
+        ),
+        (
+            Outcome::NotYet {
+                what: Unbuilt::Record,
+            },
+            "ERROR: not built yet: 3",
+            16,
+        ),
         (
             Outcome::RootFault { side: source },
             "ERROR: root fault: source",

@@ -1,7 +1,10 @@
-use super::{A, NO_FILES, Row, T0, add, flat, plain, run, site_shown};
+//! Refused words and sites.
+
+use super::{A, NO_FILES, T0, run, site_shown};
 use crate::{outcome_text, status};
+use rc_fixture::{Row, flat_tree, plain_props, put_entry};
 use rc_mem::{MemSink, MemSite, Tree};
-use rc_tree::{Attr, Kind};
+use rc_tree::{Attr, Kind, Moment};
 use std::alloc::Global;
 use std::test::Fail;
 
@@ -22,16 +25,10 @@ enum Last {
 
 // A tree of files and maybe the directory z.
 fn tree(alloc: Global, rows: &[Row], last: Last) -> Result<Tree, Fail> {
-    let mut tree = flat(alloc, rows)?;
+    let mut tree = flat_tree(alloc, rows)?;
     if last == Last::Dir {
-        add(
-            alloc,
-            &mut tree,
-            "z",
-            Kind::Dir,
-            plain(alloc, T0, Attr::NONE)?,
-            b"",
-        )?;
+        let props = plain_props(alloc, Moment::new(T0), Attr::NONE);
+        put_entry(alloc, &mut tree, "z", Kind::Dir, b"", props)?;
     }
     Ok(tree)
 }
@@ -81,7 +78,7 @@ fn words_are_refused(rt: HostRuntime) -> Result<(), Fail> {
         (&["SRC", "DST", "/COPY\u{E9}D"], "ERROR: not built yet: 1"),
         (&["SRC", "DST", "/COPY:\u{17F}"], "ERROR: not built yet: 1"),
     ] {
-        let source = flat(alloc, FILE)?;
+        let source = flat_tree(alloc, FILE)?;
         let start = MemSite::new(alloc, source, Tree::new(alloc), Vec::new(alloc))?;
         assert!(rt; refuses(alloc, words, start, line)?);
     }

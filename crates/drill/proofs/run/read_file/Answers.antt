@@ -1,7 +1,7 @@
-use Rattle.std.proofs.Common.{List, ℕ, Err, ap, subst, length, arith}
+use Rattle.std.proofs.Common.{List, ℕ, subst, length, arith}
 use Rattle.std.proofs.lemmas.Result.{IfOk-weaker}
 use Rattle.drill.specs.Drilling.{IsNoSite, IsSiteText}
-use Rattle.drill.proofs.Drills.{all_read, file_read, left_of, none_read, on_ok, input_no_text, memory_no_input, memory_no_text}
+use Rattle.drill.proofs.Drills.{all_read, file_read, left_of, none_read, on_ok}
 use Rattle.drill.proofs.run.read_file.Goals as goal
 
 pub returns-in-Ok-clause-file : goal.returns-in-Ok-clause-file
@@ -28,30 +28,3 @@ returns-in-Ok-clause-no_further g c = λ told. (
   omega (arith, c.in-Ok.ensures.bound, c.in-Ok.text.ok.0),
   left_of (g.I.Input.rest c.args.input.now) c.in-Ok.text.items (g.I.Input.rest c.read_text.new.input) (c.in-Ok.ensures.taken told),
 )
-
-pub returns-in-Ok-clause-cause : goal.returns-in-Ok-clause-cause
-returns-in-Ok-clause-cause g c = record { never_falls = c.read_text.ensures.cause.never_falls; rose = λ h. absurd (c.file_of.ensures.others h) }
-
-pub returns-in-Err-Failed-clause-refused : goal.returns-in-Err-Failed-clause-refused
-returns-in-Err-Failed-clause-refused g c = λ h. absurd (input_no_text h)
-
-pub returns-in-Err-Failed-clause-read_all : goal.returns-in-Err-Failed-clause-read_all
-returns-in-Err-Failed-clause-read_all g c = λ told h. absurd (input_no_text h)
-
-pub returns-in-Err-Failed-clause-no_further : goal.returns-in-Err-Failed-clause-no_further
-returns-in-Err-Failed-clause-no_further g c = c.in-Err-Failed.ensures.lost
-
-pub returns-in-Err-Failed-clause-cause : goal.returns-in-Err-Failed-clause-cause
-returns-in-Err-Failed-clause-cause g c = record { never_falls = c.read_text.ensures.cause.never_falls; rose = λ h. c.in-Err-Failed.ensures.cause.rose (ap (λ e. Err e) c.in-Err-Failed.field-0-is) }
-
-pub returns-in-Err-NoMemory-clause-refused : goal.returns-in-Err-NoMemory-clause-refused
-returns-in-Err-NoMemory-clause-refused g c = λ h. absurd (memory_no_text h)
-
-pub returns-in-Err-NoMemory-clause-read_all : goal.returns-in-Err-NoMemory-clause-read_all
-returns-in-Err-NoMemory-clause-read_all g c = λ told h. absurd (memory_no_text h)
-
-pub returns-in-Err-NoMemory-clause-no_further : goal.returns-in-Err-NoMemory-clause-no_further
-returns-in-Err-NoMemory-clause-no_further g c = c.in-Err-NoMemory.ensures.lost
-
-pub returns-in-Err-NoMemory-clause-cause : goal.returns-in-Err-NoMemory-clause-cause
-returns-in-Err-NoMemory-clause-cause g c = record { never_falls = c.read_text.ensures.cause.never_falls; rose = λ h. absurd (memory_no_input h) }

@@ -7,7 +7,7 @@ invariant-pieces g l = record {
   some : 0 < vec_len l.buf;
   short : vec_len l.text ≤ GREATEST_TEXT;
   taken : g.I.Input.tells ≡ true → g.I.Input.rest l.fn.input ≡ l.text.items ++ g.I.Input.rest l.input;
-  counts : g.I.Input.faults l.fn.input ≤ g.I.Input.faults l.input;
+  counts : g.I.Input.faults l.input ≡ g.I.Input.faults l.fn.input;
 }
 
 abbrev pub decreases-pieces : goal.decreases-pieces

@@ -1,38 +1,20 @@
-use Rattle.std.proofs.Common.{refl, sym, subst, ◌∙◌, inr, arith}
-use Rattle.rc_volume.specs.Faults.{Rose}
+use Rattle.std.proofs.Common.{refl, sym, subst, inr}
+use Rattle.rc_volume.specs.Faults.{RoseBy}
 use Rattle.drill.specs.declared.run.Stop.{Stop}
 use Rattle.drill.specs.Drilling.{OfSome, Writes}
 use Rattle.drill.specs.Finishing.{refusal_line}
-use Rattle.drill.proofs.Drills.{input_memory, text_memory, wrote_front, AppendsFront-none}
+use Rattle.drill.proofs.Drills.{wrote_front, AppendsFront-none}
 use Rattle.drill.proofs.run.refuse.Goals as goal
 
 pub returns-in-Input-clause-written : goal.returns-in-Input-clause-written
 returns-in-Input-clause-written g c =
-    subst (λ (stop : Stop). OfSome g.K.Sink.tells (g.K.Sink.received c.write_line.new.out) (λ x. Writes (Rose (g.K.Sink.faults c.args.out.now) (g.K.Sink.faults c.write_line.new.out)) (g.K.Sink.received c.args.out.now) (refusal_line stop) 16 x c.write_line.result)) (sym c.in-Input.is) c.write_line.ensures.written
-
-pub returns-in-Input-clause-silent : goal.returns-in-Input-clause-silent
-returns-in-Input-clause-silent g c = λ is. absurd (input_memory (sym c.in-Input.is ∙ is))
-
-pub returns-in-Input-clause-counts : goal.returns-in-Input-clause-counts
-returns-in-Input-clause-counts g c = c.write_line.ensures.counts
+    subst (λ (stop : Stop). OfSome g.K.Sink.tells (g.K.Sink.received c.write_line.new.out) (λ x. Writes (RoseBy 1 (g.K.Sink.faults c.args.out.now) (g.K.Sink.faults c.write_line.new.out)) (g.K.Sink.received c.args.out.now) (refusal_line stop) 16 x c.write_line.result)) (sym c.in-Input.is) c.write_line.ensures.written
 
 pub returns-in-SiteText-clause-written : goal.returns-in-SiteText-clause-written
 returns-in-SiteText-clause-written g c =
-    subst (λ (stop : Stop). OfSome g.K.Sink.tells (g.K.Sink.received c.write_line-in-SiteText.new.out) (λ x. Writes (Rose (g.K.Sink.faults c.args.out.now) (g.K.Sink.faults c.write_line-in-SiteText.new.out)) (g.K.Sink.received c.args.out.now) (refusal_line stop) 16 x c.write_line-in-SiteText.result)) (sym c.in-SiteText.is) c.write_line-in-SiteText.ensures.written
-
-pub returns-in-SiteText-clause-silent : goal.returns-in-SiteText-clause-silent
-returns-in-SiteText-clause-silent g c = λ is. absurd (text_memory (sym c.in-SiteText.is ∙ is))
-
-pub returns-in-SiteText-clause-counts : goal.returns-in-SiteText-clause-counts
-returns-in-SiteText-clause-counts g c = c.write_line-in-SiteText.ensures.counts
+    subst (λ (stop : Stop). OfSome g.K.Sink.tells (g.K.Sink.received c.write_line-in-SiteText.new.out) (λ x. Writes (RoseBy 1 (g.K.Sink.faults c.args.out.now) (g.K.Sink.faults c.write_line-in-SiteText.new.out)) (g.K.Sink.received c.args.out.now) (refusal_line stop) 16 x c.write_line-in-SiteText.result)) (sym c.in-SiteText.is) c.write_line-in-SiteText.ensures.written
 
 pub returns-in-NoMemory-clause-written : goal.returns-in-NoMemory-clause-written
 returns-in-NoMemory-clause-written g c =
-    wrote_front g.K.Sink.tells (g.K.Sink.received c.args.out.now) (refusal_line c.args.stop) (g.K.Sink.received c.args.out.now) (Rose (g.K.Sink.faults c.args.out.now) (g.K.Sink.faults c.args.out.now)) 16 32
+    wrote_front g.K.Sink.tells (g.K.Sink.received c.args.out.now) (refusal_line c.args.stop) (g.K.Sink.received c.args.out.now) (RoseBy 1 (g.K.Sink.faults c.args.out.now) (g.K.Sink.faults c.args.out.now)) 16 32
     (λ told. AppendsFront-none (g.K.Sink.received c.args.out.now) (refusal_line c.args.stop)) (inr refl)
-
-pub returns-in-NoMemory-clause-silent : goal.returns-in-NoMemory-clause-silent
-returns-in-NoMemory-clause-silent g c = λ is. (λ told. refl, refl)
-
-pub returns-in-NoMemory-clause-counts : goal.returns-in-NoMemory-clause-counts
-returns-in-NoMemory-clause-counts g c = omega arith

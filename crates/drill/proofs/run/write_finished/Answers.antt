@@ -1,6 +1,6 @@
-use Rattle.std.proofs.Common.{ap, refl, sym, subst, ℕ, List, Err, inl, inr}
+use Rattle.std.proofs.Common.{refl, sym, subst, ℕ, List, inl, inr}
 use Rattle.rc_run.specs.Outcome.{status_of}
-use Rattle.rc_volume.specs.Faults.{Rose}
+use Rattle.rc_volume.specs.Faults.{RoseBy}
 use Rattle.drill.specs.Drilling.{OfSome, Writes, drill_text}
 use Rattle.drill.specs.Finishing.{end_of}
 use Rattle.drill.proofs.Drills.{wrote_all, wrote_front}
@@ -10,25 +10,16 @@ pub returns-in-Ok-clause-written : goal.returns-in-Ok-clause-written
 returns-in-Ok-clause-written g c =
     let text : List ℕ = drill_text c.args.moment (end_of c.args.finished.now) in
     let answer : ℕ = status_of c.args.finished.now.ended.outcome in
-    subst (λ (n : ℕ). OfSome g.K.Sink.tells (g.K.Sink.received c.write_end.new.out) (λ x. Writes (Rose (g.K.Sink.faults c.args.out.now) (g.K.Sink.faults c.write_end.new.out)) (g.K.Sink.received c.args.out.now) text answer x n)) (sym c.status.ensures)
-    (wrote_all g.K.Sink.tells (g.K.Sink.received c.args.out.now) text (g.K.Sink.received c.write_end.new.out) (Rose (g.K.Sink.faults c.args.out.now) (g.K.Sink.faults c.write_end.new.out)) answer c.in-Ok.ensures.written)
-
-pub returns-in-Ok-clause-counts : goal.returns-in-Ok-clause-counts
-returns-in-Ok-clause-counts g c = c.write_end.ensures.cause.never_falls
+    subst (λ (n : ℕ). OfSome g.K.Sink.tells (g.K.Sink.received c.write_end.new.out) (λ x. Writes (RoseBy 1 (g.K.Sink.faults c.args.out.now) (g.K.Sink.faults c.write_end.new.out)) (g.K.Sink.received c.args.out.now) text answer x n)) (sym c.status.ensures)
+    (wrote_all g.K.Sink.tells (g.K.Sink.received c.args.out.now) text (g.K.Sink.received c.write_end.new.out) (RoseBy 1 (g.K.Sink.faults c.args.out.now) (g.K.Sink.faults c.write_end.new.out)) answer c.in-Ok.ensures.written)
 
 pub returns-in-Err-Failed-clause-written : goal.returns-in-Err-Failed-clause-written
 returns-in-Err-Failed-clause-written g c =
-    wrote_front g.K.Sink.tells (g.K.Sink.received c.args.out.now) (drill_text c.args.moment (end_of c.args.finished.now)) (g.K.Sink.received c.write_end.new.out) (Rose (g.K.Sink.faults c.args.out.now) (g.K.Sink.faults c.write_end.new.out)) (status_of c.args.finished.now.ended.outcome) 16
+    wrote_front g.K.Sink.tells (g.K.Sink.received c.args.out.now) (drill_text c.args.moment (end_of c.args.finished.now)) (g.K.Sink.received c.write_end.new.out) (RoseBy 1 (g.K.Sink.faults c.args.out.now) (g.K.Sink.faults c.write_end.new.out)) (status_of c.args.finished.now.ended.outcome) 16
     c.in-Err-Failed.ensures.front
-    (inl (c.in-Err-Failed.ensures.cause.rose (ap (λ e. Err e) c.in-Err-Failed.field-0-is), refl))
-
-pub returns-in-Err-Failed-clause-counts : goal.returns-in-Err-Failed-clause-counts
-returns-in-Err-Failed-clause-counts g c = c.write_end.ensures.cause.never_falls
+    (inl ((rw c.in-Err-Failed.field-0-is at c.in-Err-Failed.ensures.cause).1, refl))
 
 pub returns-in-Err-NoMemory-clause-written : goal.returns-in-Err-NoMemory-clause-written
 returns-in-Err-NoMemory-clause-written g c =
-    wrote_front g.K.Sink.tells (g.K.Sink.received c.args.out.now) (drill_text c.args.moment (end_of c.args.finished.now)) (g.K.Sink.received c.write_end.new.out) (Rose (g.K.Sink.faults c.args.out.now) (g.K.Sink.faults c.write_end.new.out)) (status_of c.args.finished.now.ended.outcome) 32
+    wrote_front g.K.Sink.tells (g.K.Sink.received c.args.out.now) (drill_text c.args.moment (end_of c.args.finished.now)) (g.K.Sink.received c.write_end.new.out) (RoseBy 1 (g.K.Sink.faults c.args.out.now) (g.K.Sink.faults c.write_end.new.out)) (status_of c.args.finished.now.ended.outcome) 32
     c.in-Err-NoMemory.ensures.front (inr refl)
-
-pub returns-in-Err-NoMemory-clause-counts : goal.returns-in-Err-NoMemory-clause-counts
-returns-in-Err-NoMemory-clause-counts g c = c.write_end.ensures.cause.never_falls

@@ -7,6 +7,6 @@ returns c =
     file_put _ _ _ _ _ _ _ _ _ _ _ _ _ _ _ _ _ c.in_ok-push_str.ensures.bytes c.in_ok-put_name.ensures
     (rw (c.in_ok-push.ensures.ascii (lit< tt)) at c.in_ok-push.ensures.bytes)
     c.in_ok-put_props.ensures
-    (rw c.as_slice-bytes.ensures.value at c.in_ok-write.ensures.bytes)
-    (rw c.as_slice-bytes.ensures.value at c.in_ok-put_content.ensures)
+    (rw c.as_slice-bytes.ensures at c.in_ok-write.ensures.bytes)
+    (rw c.as_slice-bytes.ensures at c.in_ok-put_content.ensures)
     (rw (c.in_ok-push-2.ensures.ascii (lit< tt)) at c.in_ok-push-2.ensures.bytes)

@@ -8,14 +8,14 @@ use Rattle.drill.proofs.writer.send_side.Goals as goal
 
 pub returns-in_err-send_files-clause-front : goal.returns-in_err-send_files-clause-front
 returns-in_err-send_files-clause-front g c = λ told.
-    let lines = node_lines_are c.nodes.result.now c.args.tree.now c.nodes.ensures.nodes in
+    let lines = node_lines_are c.nodes.result c.args.tree.now c.nodes.ensures.nodes in
     on_err c.from_residual.result
     (front_first (g.K.Sink.received c.args.out.now) (g.K.Sink.received c.send_files.new.out) (file_lines c.args.tree.now) c.args.end.now _
     (subst (λ t. AppendsFront (g.K.Sink.received c.args.out.now) t (g.K.Sink.received c.send_files.new.out)) lines (c.in_err-send_files.ensures.front told)) refl)
 
 pub returns-in_err-write-clause-front : goal.returns-in_err-write-clause-front
 returns-in_err-write-clause-front g c = λ told.
-    let lines = node_lines_are c.nodes.result.now c.args.tree.now c.nodes.ensures.nodes in
+    let lines = node_lines_are c.nodes.result c.args.tree.now c.nodes.ensures.nodes in
     on_err c.from_residual-in_err-write.result
     (front_in (g.K.Sink.received c.args.out.now) (g.K.Sink.received c.send_files.new.out) (g.K.Sink.received c.write.new.self) (file_lines c.args.tree.now) c.args.end.now [] _
     (c.in_ok-send_files.ensures.written told ∙ ap (λ t. g.K.Sink.received c.args.out.now ++ t) lines)
@@ -24,7 +24,7 @@ returns-in_err-write-clause-front g c = λ told.
 
 pub returns-clause-written : goal.returns-clause-written
 returns-clause-written g c = λ told.
-    let lines = node_lines_are c.nodes.result.now c.args.tree.now c.nodes.ensures.nodes in
+    let lines = node_lines_are c.nodes.result c.args.tree.now c.nodes.ensures.nodes in
     behind (g.K.Sink.received c.args.out.now) (file_lines c.args.tree.now) c.args.end.now (g.K.Sink.received c.send_files.new.out) (g.K.Sink.received c.write.new.self)
     (c.in_ok-send_files.ensures.written told ∙ ap (λ t. g.K.Sink.received c.args.out.now ++ t) lines)
     (c.in_ok-write.ensures.written told ∙ ap (λ t. g.K.Sink.received c.send_files.new.out ++ t) c.as_bytes.ensures.value)

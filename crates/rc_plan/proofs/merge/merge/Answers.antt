@@ -4,7 +4,7 @@ use Rattle.rc_tree.specs.declared.attr.Kind.TheVariants.{File}
 use Rattle.rc_class.specs.declared.item.Item.{Item}
 use Rattle.rc_plan.specs.declared.found.Found.{Found}
 use Rattle.rc_plan.specs.Merge.{AreListed, behind, least}
-use Rattle.rc_plan.proofs.MergeLemmas.{Merges, Merges-same, Merges-more, Merges-end, AreListed-behind, decided_so, fewer_so, merged_items, merged_rising, merged_roots, merged_small, ours_first, theirs_first, some_now}
+use Rattle.rc_plan.proofs.MergeLemmas.{Merges, Merges-same, Merges-more, Merges-end, AreListed-behind, decided_so, fewer_so, merged_all, ours_first, theirs_first, some_now}
 use Rattle.rc_plan.proofs.merge.merge.Goals as goal
 
 pub keys-init : goal.keys-init
@@ -24,29 +24,11 @@ decide-requires-clause-theirs c =
     some_now _ c.least.result.1 _ (λ (f : Found). f.facts.kind ≡ File) c.least.ensures.target
     (theirs_first (λ f. f.facts.kind ≡ File) c.keys.ours.now c.keys.theirs.now c.keys.invariant.theirs.files)
 
-pub returns-in-Ok-None-clause-rising : goal.returns-in-Ok-None-clause-rising
-returns-in-Ok-None-clause-rising c =
+pub returns-in-Ok-None : goal.returns-in-Ok-None
+returns-in-Ok-None c =
     let e = decided_so c.args.job.now c.args.moment _ _ _ _ _ _ c.least.ensures.source c.least.ensures.target c.in-Ok-None.ensures c.in-Ok-None.field-0-is in
-    let merged = Merges-end c.args.job.now c.args.moment c.args.source.now c.args.target.now c.keys.ours.now c.keys.theirs.now c.keys.items.items e c.keys.invariant.merged in
-    merged_rising _ _ _ _ _ merged c.requires.ours c.requires.theirs
-
-pub returns-in-Ok-None-clause-items : goal.returns-in-Ok-None-clause-items
-returns-in-Ok-None-clause-items c =
-    let e = decided_so c.args.job.now c.args.moment _ _ _ _ _ _ c.least.ensures.source c.least.ensures.target c.in-Ok-None.ensures c.in-Ok-None.field-0-is in
-    let merged = Merges-end c.args.job.now c.args.moment c.args.source.now c.args.target.now c.keys.ours.now c.keys.theirs.now c.keys.items.items e c.keys.invariant.merged in
-    merged_items _ _ _ _ _ merged c.requires.ours c.requires.theirs
-
-pub returns-in-Ok-None-clause-roots : goal.returns-in-Ok-None-clause-roots
-returns-in-Ok-None-clause-roots c =
-    let e = decided_so c.args.job.now c.args.moment _ _ _ _ _ _ c.least.ensures.source c.least.ensures.target c.in-Ok-None.ensures c.in-Ok-None.field-0-is in
-    let merged = Merges-end c.args.job.now c.args.moment c.args.source.now c.args.target.now c.keys.ours.now c.keys.theirs.now c.keys.items.items e c.keys.invariant.merged in
-    merged_roots _ _ _ _ _ merged c.requires.ours c.requires.theirs
-
-pub returns-in-Ok-None-clause-small : goal.returns-in-Ok-None-clause-small
-returns-in-Ok-None-clause-small c =
-    let e = decided_so c.args.job.now c.args.moment _ _ _ _ _ _ c.least.ensures.source c.least.ensures.target c.in-Ok-None.ensures c.in-Ok-None.field-0-is in
-    let merged = Merges-end c.args.job.now c.args.moment c.args.source.now c.args.target.now c.keys.ours.now c.keys.theirs.now c.keys.items.items e c.keys.invariant.merged in
-    merged_small _ _ _ _ _ merged c.requires.small
+    merged_all c.args.job.now c.args.moment c.args.source.now c.args.target.now c.keys.items.items c.requires.ours c.requires.theirs c.requires.small
+    (Merges-end c.args.job.now c.args.moment c.args.source.now c.args.target.now c.keys.ours.now c.keys.theirs.now c.keys.items.items e c.keys.invariant.merged)
 
 pub keys-smaller : goal.keys-smaller
 keys-smaller c =

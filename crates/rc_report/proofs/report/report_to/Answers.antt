@@ -18,7 +18,7 @@ loop-item-preserved g c =
     let at : c.item-item.result ≡ get_or c.args.plan.now.items c.loop-item.item-index c.item-item.result = c.item-item.is ∙ ap (λ (xs : List Item). get_or xs c.loop-item.item-index c.item-item.result) c.items-item-items.ensures in
     record {
       received = λ tells. pieces_more item_line c.args.plan.now.items c.loop-item.item-index c.item-item.result _ _ _ (grind arith) at (c.loop-item.invariant.received tells) (c.in_ok-write_item.ensures.written tells);
-      counts = grind (arith, c.in_ok-write_item.ensures.cause.never_falls);
+      counts = c.in_ok-write_item.ensures.cause ∙ c.loop-item.invariant.counts;
     }
 
 pub returns-in_err-write_item-clause-front : goal.returns-in_err-write_item-clause-front

@@ -1,4 +1,4 @@
-use Rattle.std.proofs.Common.{[], codes, refl, arith}
+use Rattle.std.proofs.Common.{[], codes, refl}
 use Rattle.std.specs.Str.{chars}
 use Rattle.rc_run.specs.declared.outcome.Outcome.TheVariants.{Done, NotYet, RootFault, ListFault, RecordFault, SiteFault, SinkFault, NoMemory}
 use Rattle.rc_run.proofs.OutcomeLemmas.{chars_made, not_yet_chars, root_chars, list_chars, site_chars}
@@ -9,7 +9,7 @@ unfolding chars
 returns-in-Done c = chars_made c.from_str.result [] c.args.outcome.now (Done c.in-Done.bits c.in-Done.moment) c.in-Done.is refl c.from_str.ensures.ok
 
 pub returns-in-NotYet : goal.returns-in-NotYet
-returns-in-NotYet c = chars_made c.not_yet_line.result _ c.args.outcome.now (NotYet c.in-NotYet.what) c.in-NotYet.is (not_yet_chars c.in-NotYet.what (omega arith)) c.not_yet_line.ensures
+returns-in-NotYet c = chars_made c.not_yet_line.result _ c.args.outcome.now (NotYet c.in-NotYet.what) c.in-NotYet.is (not_yet_chars c.in-NotYet.what) c.not_yet_line.ensures
 
 pub returns-in-RootFault : goal.returns-in-RootFault
 returns-in-RootFault c = chars_made c.fault_line.result _ c.args.outcome.now (RootFault c.in-RootFault.side) c.in-RootFault.is (root_chars c.in-RootFault.side) c.fault_line.ensures

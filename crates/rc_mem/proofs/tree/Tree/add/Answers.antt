@@ -1,14 +1,17 @@
-use Rattle.std.proofs.Common.{ap, sym, ◌∙◌, subst}
-use Rattle.rc_mem.specs.Nodes.{tree_from}
-use Rattle.rc_mem.proofs.NodeLists.{adds, IsKept}
+use Rattle.std.proofs.Common.{◌∙◌}
+use Rattle.rc_tree.specs.Path.{key_of}
+use Rattle.rc_mem.specs.Nodes.{node_of}
+use Rattle.rc_mem.proofs.Steps.{above-absent, sound-came, self-insert}
 use Rattle.rc_mem.proofs.tree.Tree.add.Goals as goal
 
 pub invariant_of-self-2 : goal.invariant_of-self-2
 invariant_of-self-2 c =
-    subst IsKept (sym c.in_ok-push.ensures.items)
-    (adds c.args.self.now c.self.inside.nodes.items c.args.node c.self.invariant c.self.view_is c.requires.above c.requires.parent c.requires.no_bytes c.keeps_limits.ensures.depth c.keeps_limits.ensures.named).0
+    let node = c.args.node in
+    sound-came c.self.inside.nodes c.insert.new.self c.in_ok-key.field-0 (record node { path = c.in_ok-own.own }) c.in_ok-insert.ensures.updates c.args.self.now c.self.view_is c.self.invariant node.path
+    c.in_ok-own.ensures (c.in_ok-key.ensures ∙ c.in_ok-own.ensures.key) (above-absent c.args.self.now (key_of node.path) c.requires.above) c.requires.no_bytes
 
 pub returns-clause-added : goal.returns-clause-added
 returns-clause-added c =
-    ap tree_from c.in_ok-push.ensures.items
-    ∙ (adds c.args.self.now c.self.inside.nodes.items c.args.node c.self.invariant c.self.view_is c.requires.above c.requires.parent c.requires.no_bytes c.keeps_limits.ensures.depth c.keeps_limits.ensures.named).1
+    let node = c.args.node in
+    self-insert c.self.inside.nodes c.insert.new.self c.in_ok-key.field-0 (record node { path = c.in_ok-own.own }) c.in_ok-insert.ensures.updates c.args.self.now c.self.view_is (key_of node.path) (node_of node)
+    (c.in_ok-key.ensures ∙ c.in_ok-own.ensures.key) (λ i. record { spelling = c.in_ok-own.ensures.last i; kind = node.kind; bytes = node.bytes; props = node.props })

@@ -1,28 +1,28 @@
-use Rattle.std.proofs.Common.{◌≡◌, refl, ap}
-use Rattle.rc_tree.specs.declared.props.Props.{Props}
+use Rattle.std.proofs.Common.{ap, ◌∙◌, sym}
+use Rattle.std.specs.FinMap.{get}
 use Rattle.rc_tree.specs.Path.{key_of}
 use Rattle.rc_tree.specs.Tree.{Node}
-use Rattle.rc_mem.specs.declared.tree.TreeNode.{TreeNode}
-use Rattle.rc_mem.specs.Nodes.{placed, node_of}
-use Rattle.rc_mem.proofs.NodeLists.{changes-self, held-self, no_bytes-self}
+use Rattle.rc_volume.specs.Site.{with_props}
+use Rattle.rc_mem.specs.Nodes.{node_of}
+use Rattle.rc_mem.proofs.Steps.{absent-self, none_some, sound-changed, self-becomes}
+use Rattle.rc_mem.proofs.Sound.{no_bytes-at}
 use Rattle.rc_mem.proofs.tree.Tree.set_props.Goals as goal
+
+pub unreachable-requires : goal.unreachable-requires
+unreachable-requires c = none_some (get c.args.self.now (key_of c.args.path.now)) (absent-self c.args.self.now c.self.inside.nodes c.in_ok-key.key (key_of c.args.path.now) c.self.view_is c.in_ok-key.ensures c.in-None.ensures.value) c.requires
 
 pub invariant_of-self : goal.invariant_of-self
 invariant_of-self c =
-    let node = c.index_mut.result.now in
-    let new : TreeNode = record { path = node.path; kind = node.kind; bytes = node.bytes; props = c.in_ok-props.props } in
-    let here = held-self c.args.self.now c.self.inside.nodes.items c.as_slice.result.now (key_of c.args.path.now) c.holder-at.result node c.self.invariant.0 c.self.view_is c.as_slice.ensures.value c.holder-at.ensures.place c.index_mut.ensures.value in
-    let empty = no_bytes-self c.args.self.now c.self.inside.nodes.items (key_of c.args.path.now) (node_of node) c.self.invariant.1 c.self.view_is here in
-    let shows : placed new ≡ (key_of node.path, record (node_of node) { props = c.args.props.now }) = ap (λ (props : Props). (key_of node.path, record (node_of node) { props = props })) c.in_ok-props.ensures in
-    (changes-self c.args.self.now c.self.inside.nodes.items c.as_slice.result.now (key_of c.args.path.now) c.holder-at.result node new (λ (n : Node). record n { props = c.args.props.now })
-    c.self.invariant c.self.view_is c.as_slice.ensures.value c.holder-at.ensures.place c.index_mut.ensures.value shows refl refl empty).0
+    let m = c.self.inside.nodes in
+    let node = c.in-Some.node.now in
+    let new = c.set_props.new.self in
+    let at = c.in-Some.ensures.value in
+    sound-changed m (c.get_mut.follows.lender new) c.in_ok-key.key node new at (c.get_mut.follows.holds new) c.self.invariant c.set_props.ensures.path c.set_props.ensures.kind
+    (λ dir. ap (λ (x : Node). x.bytes) c.set_props.ensures.props ∙ no_bytes-at m c.in_ok-key.key node c.self.invariant (sym at) (sym c.set_props.ensures.kind ∙ dir))
 
-pub returns-clause-changed : goal.returns-clause-changed
-returns-clause-changed c =
-    let node = c.index_mut.result.now in
-    let new : TreeNode = record { path = node.path; kind = node.kind; bytes = node.bytes; props = c.in_ok-props.props } in
-    let here = held-self c.args.self.now c.self.inside.nodes.items c.as_slice.result.now (key_of c.args.path.now) c.holder-at.result node c.self.invariant.0 c.self.view_is c.as_slice.ensures.value c.holder-at.ensures.place c.index_mut.ensures.value in
-    let empty = no_bytes-self c.args.self.now c.self.inside.nodes.items (key_of c.args.path.now) (node_of node) c.self.invariant.1 c.self.view_is here in
-    let shows : placed new ≡ (key_of node.path, record (node_of node) { props = c.args.props.now }) = ap (λ (props : Props). (key_of node.path, record (node_of node) { props = props })) c.in_ok-props.ensures in
-    (changes-self c.args.self.now c.self.inside.nodes.items c.as_slice.result.now (key_of c.args.path.now) c.holder-at.result node new (λ (n : Node). record n { props = c.args.props.now })
-    c.self.invariant c.self.view_is c.as_slice.ensures.value c.holder-at.ensures.place c.index_mut.ensures.value shows refl refl empty).1
+pub returns-clause-props : goal.returns-clause-props
+returns-clause-props c =
+    let m = c.self.inside.nodes in
+    let new = c.set_props.new.self in
+    self-becomes m (c.get_mut.follows.lender new) c.in_ok-key.key c.in-Some.node.now new c.in-Some.ensures.value (c.get_mut.follows.holds new) c.args.self.now (key_of c.args.path.now) (with_props c.args.props.now) c.self.view_is c.in_ok-key.ensures
+    (c.set_props.ensures.props ∙ ap (λ props. with_props props (node_of c.in-Some.node.now)) c.in_ok-props.ensures)

@@ -1,0 +1,5 @@
+mod Cases
+mod Chars
+mod Cuts
+mod Folding
+mod Turns
