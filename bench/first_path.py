@@ -3,7 +3,7 @@
 
 bench/first_path.py [SHAPE ..]    these shapes, or all of them, each once and then at double size
 
-For each text it prints the least processor time of three runs of drill, that time over the one before, and the peak
+For each text it prints the least processor time of seven runs of drill, that time over the one before, and the peak
 memory: over the text's size, and for each entry that the two trees have together in the end. The program has to be built:
 ./run --build drill
 """
@@ -20,7 +20,7 @@ PROGRAM = Path(__file__).resolve().parent.parent / "crates" / "drill" / "out" / 
 MOMENT = "133485408000000000"
 BEFORE = "133485407990000000"
 MB = 1_000_000
-RUNS = 3
+RUNS = 7
 
 # what is measured: how many files of which size the source has, and what the target has beside them
 Shape = namedtuple("Shape", "about files size beside")
