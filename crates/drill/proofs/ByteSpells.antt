@@ -12,7 +12,7 @@ use Rattle.hex.proofs.HexLemmas.{length-encode_with}
 use Rattle.rc_tree.specs.declared.attr.Attr.{Attr}
 use Rattle.rc_tree.specs.Attr.{no_attr}
 use Rattle.drill.specs.SiteText.{or_dash, letters, flags_of, marked, attr_text, hex_text, is_repeated, content_text, IsSecurity}
-use Rattle.drill.specs.Reading.{letter_at, flags_at, attr_with, attr_at, bytes_at, security_at, times, repeated_at, written_at, starred_at, content_at}
+use Rattle.drill.specs.Reading.{letter_at, flags_at, attr_with, attr_at, bytes_at, security_at, times, repeated_at, plain_at, starred_at, content_at}
 use Rattle.drill.proofs.Appends.{or_dash_some, hex_some}
 use Rattle.drill.proofs.FieldValues.{attr_read}
 use Rattle.drill.proofs.HexLaws.{bytes_take, bytes_again, IsPrintable-hex}
@@ -253,8 +253,8 @@ repeated_takes size digits bytes e =
       size_is = length-replicate size q.0;
     })
 
-written_takes : (size : ℕ) (text bytes : List ℕ) → size ≢ 0 → written_at size text ≡ Some bytes → Spelled size text bytes
-unfolding written_at
+written_takes : (size : ℕ) (text bytes : List ℕ) → size ≢ 0 → plain_at size text ≡ Some bytes → Spelled size text bytes
+unfolding plain_at
 written_takes size text bytes some e =
     let p = bind_some (bytes_at text) (λ b. cond (not (eqb (length b) size) || is_repeated b) None (Some b)) bytes e in
     let q = unless_some (not (eqb (length p.0) size) || is_repeated p.0) (Some p.0) bytes p.2 in
@@ -283,7 +283,7 @@ content_takes size text bytes e =
       | inr some ↦ starred_takes size text bytes some.1 (rw some.0 at e)
     ]
 
-first_not_star : (size : ℕ) (text : List ℕ) → 0 < length text → IsPrintable 48 text → starred_at size text ≡ written_at size text
+first_not_star : (size : ℕ) (text : List ℕ) → 0 < length text → IsPrintable 48 text → starred_at size text ≡ plain_at size text
 first_not_star size [] some h = absurd (omega arith)
 first_not_star size (c ∷ text) some h = rw (ne_eqb c 42 (λ e. omega (arith, h.0.0, e))) refl
 
@@ -295,7 +295,7 @@ first_fits [] fits = fits
 first_fits (b ∷ bytes) fits = replicate_fits 1 b (fits 0)
 
 pub content_again : (bytes : List ℕ) → IsBytes bytes → content_at (length bytes) (content_text bytes) ≡ Some bytes
-unfolding content_at encode_with repeated_at written_at
+unfolding content_at encode_with repeated_at plain_at
 content_again [] fits = refl
 content_again (b ∷ bytes) fits =
     elim (cases_Bool (is_repeated (b ∷ bytes))) [

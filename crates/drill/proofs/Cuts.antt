@@ -4,7 +4,7 @@ use Rattle.std.proofs.lemmas.Bool.Decides.{eqb_tells}
 use Rattle.std.proofs.lemmas.List.Elements.{All-from_get_or}
 use Rattle.std.proofs.lemmas.List.Splits.{slice_split_at, slice_split_none, length-slice_split}
 use Rattle.std.specs.List.{All}
-use Rattle.drill.specs.Reading.{cut, letter_at, lines_in, line_at, starred_at, written_at}
+use Rattle.drill.specs.Reading.{cut, letter_at, lines_in, line_at, starred_at, plain_at}
 
 -- a byte that differs fails the test
 apart : (b c : ℕ) → b ≢ c → eqb b c ≡ false
@@ -55,7 +55,7 @@ letter_none c (b ∷ text) other =
     let ne : b ≢ c = λ e. other text (ap (λ (x : ℕ). x ∷ text) e) in
     rw (apart b c ne) refl
 
-pub starred_none : (size : ℕ) (text : List ℕ) → ((rest : List ℕ) → text ≢ 42 ∷ rest) → starred_at size text ≡ written_at size text
+pub starred_none : (size : ℕ) (text : List ℕ) → ((rest : List ℕ) → text ≢ 42 ∷ rest) → starred_at size text ≡ plain_at size text
 starred_none size [] other = refl
 starred_none size (b ∷ text) other =
     let ne : b ≢ 42 = λ e. other text (ap (λ (x : ℕ). x ∷ text) e) in

@@ -29,7 +29,7 @@ use Rattle.drill.specs.declared.run.Stop.{Stop}
 use Rattle.drill.specs.declared.run.Stop.TheVariants.{Input, SiteText, NoMemory}
 use Rattle.drill.specs.declared.run.TheConstants.{GREATEST_TEXT}
 use Rattle.drill.specs.declared.site_file.SiteFile.{SiteFile}
-use Rattle.drill.specs.Drilling.{Drills, IsCutIn, IsNoSite, IsSiteText, OfSome, Prints, Writes, WritesOne, drill_text, start_of, whole_line}
+use Rattle.drill.specs.Drilling.{Drills, IsCutIn, IsNoSite, IsSiteText, OfSome, Prints, Writes, WritesOne, drill_text, told_of, whole_line}
 use Rattle.drill.specs.Finishing.{Ends, refusal_line, stop_failed}
 
 -- Stops
@@ -164,7 +164,7 @@ abbrev with_notes : SiteFile → List ℕ → Told
 with_notes file notes = record { source = file.source; target = file.target; notes = notes }
 
 -- a site that was made of a file and an empty record
-pub start_is : (file : SiteFile) (start : Told) (notes : List ℕ) → start ≡ with_notes file notes → notes ≡ [] → start ≡ start_of file
+pub start_is : (file : SiteFile) (start : Told) (notes : List ℕ) → start ≡ with_notes file notes → notes ≡ [] → start ≡ told_of file
 start_is file start notes e empty = e ∙ ap (with_notes file) empty
 
 pub never : RoseBy 1 0 0 → ⊥
@@ -182,14 +182,7 @@ refused_end words moment start now outcome report refused silent same = inl (rec
 -- a run is finished where it is done
 finished_done : (outcome : Outcome) → ending outcome ≡ finished → (bits : ℕ) × (at : ℕ) × (outcome ≡ out.Done bits at)
 finished_done (out.Done bits at) e = (bits, at, refl)
-finished_done (out.Usage file place kind) e = cc
-finished_done (out.NotYet what) e = cc
-finished_done (out.RootFault side) e = cc
-finished_done (out.ListFault side) e = cc
-finished_done out.RecordFault e = cc
-finished_done (out.SiteFault side) e = cc
-finished_done out.SinkFault e = cc
-finished_done out.NoMemory e = cc
+finished_done _ e = cc
 
 -- a site is refused before anything is copied or reported
 refused_early : (job : Job) (told : Told) (refusal : Outcome) → site_refusal job told ≡ Some refusal → last_step (ending refusal) < at_copies
@@ -294,12 +287,12 @@ ends words moment start now outcome report r = by_asked (asked words) refl r.exp
         by_site (Some refusal) found (inr memory) = cut_end words moment start now outcome report r memory
 
 -- a run that began at a moment, over a site and with a report, whatever they were called
-pub ends_so : (words : List (List ℕ)) (moment last : ℕ) (file : SiteFile) (start now : Told) (outcome : Outcome) (before report : List ℕ) → last ≡ moment → start ≡ start_of file → before ≡ [] → Runs words last start now outcome before report
-    → Ends words moment (start_of file) (drill_text moment (record { report = report; outcome = outcome; now = now })) (status_of outcome)
+pub ends_so : (words : List (List ℕ)) (moment last : ℕ) (file : SiteFile) (start now : Told) (outcome : Outcome) (before report : List ℕ) → last ≡ moment → start ≡ told_of file → before ≡ [] → Runs words last start now outcome before report
+    → Ends words moment (told_of file) (drill_text moment (record { report = report; outcome = outcome; now = now })) (status_of outcome)
 ends_so words moment last file start now outcome before report at is none r =
-    ends words moment (start_of file) now outcome report
-    (subst (λ (b : List ℕ). Runs words moment (start_of file) now outcome b report) none
-    (subst (λ (m : ℕ). Runs words m (start_of file) now outcome before report) at
+    ends words moment (told_of file) now outcome report
+    (subst (λ (b : List ℕ). Runs words moment (told_of file) now outcome b report) none
+    (subst (λ (m : ℕ). Runs words m (told_of file) now outcome before report) at
     (subst (λ (s : Told). Runs words last s now outcome before report) is r)))
 
 -- a site that is the one that was handed in tells the same
@@ -309,12 +302,12 @@ told_same (Err refusal) site end before report more h = (ap told_by h.0, h.1)
 
 -- Drills
 
-file_printed : (failed : Type 0) (words : List (List ℕ)) (text : List ℕ) (file : SiteFile) (printed : List ℕ) (answer : ℕ) → IsSiteText text file → Ends words file.moment (start_of file) printed answer → Prints failed words text printed answer
+file_printed : (failed : Type 0) (words : List (List ℕ)) (text : List ℕ) (file : SiteFile) (printed : List ℕ) (answer : ℕ) → IsSiteText text file → Ends words file.moment (told_of file) printed answer → Prints failed words text printed answer
 file_printed failed words text file printed answer is (inl shows) = inr (inl (inr (record { file = file; spells = is; shows = shows })))
 file_printed failed words text file printed answer is (inr shows) = inr (inr (record { file = file; spells = is; shows = shows }))
 
 run_drilled : (input_failed failed : Type 0) (words : List (List ℕ)) (text : List ℕ) (file : SiteFile) (old new : List ℕ) (status : ℕ) → IsSiteText text file
-    → WritesOne (Ends words file.moment (start_of file)) failed old new status ⊎ ((new ≡ old) × (status ≡ 32)) → Drills input_failed failed words text old new status
+    → WritesOne (Ends words file.moment (told_of file)) failed old new status ⊎ ((new ≡ old) × (status ≡ 32)) → Drills input_failed failed words text old new status
 run_drilled input_failed failed words text file old new status is (inl one) = inl (record {
   printed = one.printed;
   answer = one.answer;
@@ -326,7 +319,7 @@ run_drilled input_failed failed words text file old new status is (inr none) = i
 -- of a text that spells a site
 pub file_drilled : (reads hears : Bool) (input_failed failed : Type 0) (words : List (List ℕ)) (rest : List ℕ) (file : SiteFile) (old told : List ℕ) (status : ℕ)
     → OfSome reads rest (λ text. IsSiteText text file)
-    → OfSome hears told (λ new. WritesOne (Ends words file.moment (start_of file)) failed old new status ⊎ ((new ≡ old) × (status ≡ 32)))
+    → OfSome hears told (λ new. WritesOne (Ends words file.moment (told_of file)) failed old new status ⊎ ((new ≡ old) × (status ≡ 32)))
     → OfSome reads rest (λ text. OfSome hears told (λ new. Drills input_failed failed words text old new status))
 file_drilled reads hears input_failed failed words rest file old told status some wrote = (
   some.0,

@@ -15,7 +15,7 @@ use Rattle.rc_tree.proofs.Keys.{key_cmp-total}
 use Rattle.drill.proofs.Cuts.{starred_none}
 use Rattle.drill.proofs.Rising.{above_none, above_some, entries-insert_last, last_of-push}
 use Rattle.drill.specs.SiteText.{letters}
-use Rattle.drill.specs.Reading.{number_at, is_numeral, is_padded, name_at, letter_at, flags_at, attr_at, attr_with, content_at, written_at, is_above, is_behind, last_key, last_of}
+use Rattle.drill.specs.Reading.{number_at, is_numeral, is_padded, name_at, letter_at, flags_at, attr_at, attr_with, content_at, plain_at, is_above, is_behind, last_key, last_of}
 
 pub numerals : IsNumeralModel (λ ds. all_ascii_digits ds ≡ true) (digits_value 10)
 numerals = numerals_by_value (λ ds. all_ascii_digits ds ≡ true) tells_all_ascii_digits
@@ -85,7 +85,7 @@ unfolding attr_at
 attr_read text end flags dash some taken = rw (dash, some, taken) refl
 
 -- what begins with no `*` is written out
-pub content_plain : (size : ℕ) (text : List ℕ) → size ≢ 0 → ((rest : List ℕ) → text ≢ 42 ∷ rest) → content_at size text ≡ written_at size text
+pub content_plain : (size : ℕ) (text : List ℕ) → size ≢ 0 → ((rest : List ℕ) → text ≢ 42 ∷ rest) → content_at size text ≡ plain_at size text
 unfolding content_at
 content_plain size text some other = rw (ne_eqb size 0 some) (starred_none size text other)
 

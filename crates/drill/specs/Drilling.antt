@@ -53,8 +53,8 @@ abbrev pub IsNoSite : List ℕ → Type 0
 IsNoSite text = (file : SiteFile) → IsSiteText text file → ⊥
 
 -- the site of a file: its trees and no record
-abbrev pub start_of : SiteFile → Told
-start_of file = record { source = file.source; target = file.target; notes = [] }
+abbrev pub told_of : SiteFile → Told
+told_of file = record { source = file.source; target = file.target; notes = [] }
 
 -- Runs
 
@@ -114,7 +114,7 @@ pub record RunsText (ended : SiteFile → End → Type 0) (text printed : List �
 -- what a drill prints of a text and answers, where nothing fails and memory suffices
 abbrev pub IsDrill : List (List ℕ) → List ℕ → List ℕ → ℕ → Type 0
 IsDrill words text printed status =
-    RefusesText text printed status ⊎ RunsText (λ file. IsRun words file.moment (start_of file)) text printed status
+    RefusesText text printed status ⊎ RunsText (λ file. IsRun words file.moment (told_of file)) text printed status
 
 -- the input could not be read
 pub record FailsToRead (failed : Type 0) (printed : List ℕ) (status : ℕ) : Type 0 where
@@ -126,7 +126,7 @@ pub record FailsToRead (failed : Type 0) (printed : List ℕ) (status : ℕ) : T
 abbrev pub Prints : Type 0 → List (List ℕ) → List ℕ → List ℕ → ℕ → Type 0
 Prints input_failed words text printed status =
     FailsToRead input_failed printed status ⊎ IsDrill words text printed status
-    ⊎ RunsText (λ file. IsCutShort words file.moment (start_of file)) text printed status
+    ⊎ RunsText (λ file. IsCutShort words file.moment (told_of file)) text printed status
 
 -- all of it was written and that is answered; or a front, where writing failed or memory ran out
 abbrev pub Writes : Type 0 → List ℕ → List ℕ → ℕ → List ℕ → ℕ → Type 0

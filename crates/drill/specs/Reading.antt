@@ -122,12 +122,12 @@ times size _ = None
 unfoldable pub repeated_at : ℕ → List ℕ → Option (List ℕ)
 repeated_at size digits = bytes_at digits >>= times size
 
-unfoldable pub written_at : ℕ → List ℕ → Option (List ℕ)
-written_at size text = bytes_at text >>= λ bytes. if not (length bytes == size) || is_repeated bytes then None else Some bytes
+unfoldable pub plain_at : ℕ → List ℕ → Option (List ℕ)
+plain_at size text = bytes_at text >>= λ bytes. if not (length bytes == size) || is_repeated bytes then None else Some bytes
 
 abbrev pub starred_at : ℕ → List ℕ → Option (List ℕ)
-starred_at size [] = written_at size []
-starred_at size (c ∷ text) = if c == 42 then repeated_at size text else written_at size (c ∷ text)
+starred_at size [] = plain_at size []
+starred_at size (c ∷ text) = if c == 42 then repeated_at size text else plain_at size (c ∷ text)
 
 unfoldable pub content_at : ℕ → List ℕ → Option (List ℕ)
 content_at size text = if size == 0 then (if bytes_eq text (codes "-") then Some [] else None) else starred_at size text

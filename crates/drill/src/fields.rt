@@ -40,7 +40,8 @@ impl<'a> Fields<'a> {
 
     #[tactic(auto, unfolding(crate::specs::Reading::field_at))]
     fn moment(&mut self) -> Result<Moment, SiteTextErr>
-        ensures { Gives (λ m. (m, self.new.rest.now)) result (field_at (number_at GREATEST_MOMENT) self.old.rest.now) }
+        ensures { Gives (λ m. (m, self.new.rest.now)) result
+            (field_at (number_at GREATEST_MOMENT) self.old.rest.now) }
     {
         let units = number_of(self.next()?, GREATEST_MOMENT)?;
         Ok(Moment::new(units))
@@ -48,7 +49,8 @@ impl<'a> Fields<'a> {
 
     #[tactic(auto, unfolding(crate::specs::Reading::field_at))]
     fn security(&mut self, alloc: Global) -> Result<Security, SiteTextErr>
-        ensures { Gives (λ s. (s, self.new.rest.now)) result (field_at security_at self.old.rest.now) }
+        ensures { Gives (λ s. (s, self.new.rest.now)) result
+            (field_at security_at self.old.rest.now) }
     {
         security_of(alloc, self.next()?)
     }
@@ -56,7 +58,8 @@ impl<'a> Fields<'a> {
     // The letter of files, and the path.
     #[tactic(auto, unfolding(crate::specs::Reading::path_at, crate::specs::Reading::field_at))]
     fn path(&mut self, alloc: Global) -> Result<Path, SiteTextErr>
-        ensures path { Gives (λ p. (last_name p, self.new.rest.now)) result (path_at self.old.rest.now) }
+        ensures path { Gives (λ p. (last_name p, self.new.rest.now)) result
+            (path_at self.old.rest.now) }
         ensures in_root { IfOk result (λ p. p ≡ last_name p ∷ []) }
     {
         if self.next()? != "F" {

@@ -36,8 +36,10 @@ pub fn drill_streams<R: Read, W: Write>(
 /// The exit status of the program: that of the drill, or, where there was none, 32 for want of memory and 16 else.
 pub fn exit_status(drilled: &io::Result<u8>) -> u8
     ensures drilled { IfOk drilled.now (λ status. result ≡ status) }
-    ensures no_memory { IfErr drilled.now (λ e. error_kind e ≡ ErrorKind.OutOfMemory → result ≡ 32) }
-    ensures failed { IfErr drilled.now (λ e. error_kind e ≢ ErrorKind.OutOfMemory → result ≡ 16) }
+    ensures no_memory { IfErr drilled.now
+        (λ e. error_kind e ≡ ErrorKind.OutOfMemory → result ≡ 32) }
+    ensures failed { IfErr drilled.now
+        (λ e. error_kind e ≢ ErrorKind.OutOfMemory → result ≡ 16) }
 {
     match drilled {
         Ok(status) => *status,

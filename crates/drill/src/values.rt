@@ -4,7 +4,7 @@ ghost use Rattle.std.specs.Prelude.{◌≡◌, ◌==◌, ◌≤◌, ◌<◌, ◌
 ghost use Rattle.std.specs.List.{list_all, list_any};
 ghost use Rattle.rc_tree.specs.Path.{last_name};
 ghost use Rattle.drill.specs.SiteText.{is_repeated};
-ghost use Rattle.drill.specs.Reading.{Gives, number_at, name_at, letter_at, is_padded, is_upper, attr_at, bytes_at, security_at, repeated_at, written_at, content_at};
+ghost use Rattle.drill.specs.Reading.{Gives, number_at, name_at, letter_at, is_padded, is_upper, attr_at, bytes_at, security_at, repeated_at, plain_at, content_at};
 
 use crate::err::SiteTextErr;
 use rc_tree::{Attr, GREATEST_SECURITY, Name, Path, Security};
@@ -180,9 +180,9 @@ fn repeated(alloc: Global, size: u64, digits: &str) -> Result<Vec<u8>, SiteTextE
 }
 
 // The bytes that `text` spells one by one, where they are `size` and not repeated.
-#[tactic(auto, unfolding(crate::specs::Reading::written_at))]
+#[tactic(auto, unfolding(crate::specs::Reading::plain_at))]
 fn written_out(alloc: Global, size: u64, text: &str) -> Result<Vec<u8>, SiteTextErr>
-    ensures { Gives (λ v. v.items) result (written_at size text.now) }
+    ensures { Gives (λ v. v.items) result (plain_at size text.now) }
 {
     let bytes = bytes_of(alloc, text)?;
     if bytes.len() as u64 != size || is_repeated(&bytes) {

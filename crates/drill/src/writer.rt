@@ -98,8 +98,8 @@ fn put_name(line: &mut String, path: &Path) -> Result<(), AllocError>
 }
 
 fn put_props(alloc: Global, line: &mut String, props: &Props) -> Result<(), AllocError>
-    ensures { OnOk result
-        (string_bytes line.new ≡ string_bytes line.old ++ join_with_byte 9 (props_fields props.now)) }
+    ensures { OnOk result (string_bytes line.new
+        ≡ string_bytes line.old ++ join_with_byte 9 (props_fields props.now)) }
 {
     put_attr(line, props.attr)?;
     let created = props.created.units();
@@ -187,7 +187,8 @@ fn send_files<K: Sink>(
     ensures written { K.tells ≡ true → OnOk result
         (K.received out.new ≡ K.received out.old ++ flat_map file_line (map node_of nodes.entry)) }
     ensures front { K.tells ≡ true → OnErr result
-        (AppendsFront (K.received out.old) (flat_map file_line (map node_of nodes.entry)) (K.received out.new)) }
+        (AppendsFront (K.received out.old) (flat_map file_line (map node_of nodes.entry))
+        (K.received out.new)) }
     ensures cause { RisesIf (sink_failed result) (K.faults out.old) (K.faults out.new) }
 {
     for node in nodes {
@@ -226,7 +227,8 @@ pub fn write_site<K: Sink>(
     ensures written { K.tells ≡ true → OnOk result
         (K.received out.new ≡ K.received out.old ++ site_text moment source.now target.now) }
     ensures front { K.tells ≡ true → OnErr result
-        (AppendsFront (K.received out.old) (site_text moment source.now target.now) (K.received out.new)) }
+        (AppendsFront (K.received out.old) (site_text moment source.now target.now)
+        (K.received out.new)) }
     ensures cause { RisesIf (sink_failed result) (K.faults out.old) (K.faults out.new) }
 {
     let mut line = String::new(alloc);

@@ -21,7 +21,7 @@ pub use class::{Class, class_of};
 pub use decision::{Act, After, Reason};
 pub use facts::{Facts, Grain, same_time};
 pub use item::{Item, Items};
-pub use laws::{one_plan, ranges_fill_a_file};
+pub use laws::{left_keys_stay, one_plan, ranges_fill_a_file};
 pub use plan::{Plan, unit_count};
 pub use props::{copied_props, fresh_props};
 pub use rules::{GivenUp, Rules};

@@ -38,7 +38,8 @@ impl Plan {
 pub fn unit_count(plan: &Plan) -> u64
     requires stride { (plan.now.stride ≡ 0) ⊎ (1048576 ≤ plan.now.stride) }
     requires few { length plan.now.items ≤ 2 ^ 32 }
-    requires small { plan.now.with_bytes ≡ true → All (λ item. is_copy item.act ≡ true → item.facts.size ≤ 2 ^ 40) plan.now.items }
+    requires small { plan.now.with_bytes ≡ true →
+        All (λ item. is_copy item.act ≡ true → item.facts.size ≤ 2 ^ 40) plan.now.items }
     ensures { result ≡ length (units_of plan.now) }
 {
     let mut count = 0;
@@ -51,7 +52,8 @@ pub fn unit_count(plan: &Plan) -> u64
 // How many units an item has.
 fn item_units(stride: u32, with_bytes: bool, item: &Item) -> u64
     requires stride { (stride ≡ 0) ⊎ (1048576 ≤ stride) }
-    requires small { with_bytes ≡ true → is_copy item.now.act ≡ true → item.now.facts.size ≤ 2 ^ 40 }
+    requires small { with_bytes ≡ true → is_copy item.now.act ≡ true →
+        item.now.facts.size ≤ 2 ^ 40 }
     ensures count { result ≡ length (item_units stride with_bytes item.now) }
     ensures bound { result ≤ 2 ^ 20 }
 {

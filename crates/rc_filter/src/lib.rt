@@ -6,8 +6,6 @@
 
 mod decide;
 mod laws;
-#[cfg(test)]
-mod tests;
 
 pub use decide::{decide_extra, decide_file, grain, rules};
 pub use laws::{

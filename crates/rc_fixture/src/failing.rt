@@ -60,8 +60,10 @@ impl FailingSite {
     // Whether this call fails, which its part's count of faults counts.
     fn fails(&mut self, call: Call, part: Part) -> bool
         ensures behind { self.new.behind ≡ self.old.behind }
-        ensures failed { result ≡ true → Counts (on part 1) (failures_in self.old) (failures_in self.new) }
-        ensures passed { result ≡ false → Counts quiet (failures_in self.old) (failures_in self.new) }
+        ensures failed { result ≡ true →
+            Counts (on part 1) (failures_in self.old) (failures_in self.new) }
+        ensures passed { result ≡ false →
+            Counts quiet (failures_in self.old) (failures_in self.new) }
     {
         if self.call != call {
             return false;
@@ -85,7 +87,8 @@ impl FailingSite {
         ensures behind { self.new.behind ≡ self.old.behind }
         ensures failed { IfSome result
             (λ side. Counts (on (part_for side) 1) (failures_in self.old) (failures_in self.new)) }
-        ensures passed { IfNone result (Counts quiet (failures_in self.old) (failures_in self.new)) }
+        ensures passed { IfNone result
+            (Counts quiet (failures_in self.old) (failures_in self.new)) }
     {
         if self.fails(Call::Bind(Side::Source), Part::Source) {
             return Some(Side::Source);

@@ -58,7 +58,8 @@ impl WideSite {
 
     // The file of the next number.
     fn next_file(&self, alloc: Global, after: Option<&Name>) -> Result<Option<Entry>, NoMemory>
-        ensures rising { IfOk result (λ found. IfSome found (IsListed 0 (option_copied after.entry))) }
+        ensures rising { IfOk result
+            (λ found. IfSome found (IsListed 0 (option_copied after.entry))) }
         ensures shown { IfOk result (λ found. IfSome found (ShowsFile self.now)) }
         ensures first { option_copied after.entry ≡ None → 0 < self.now.files → IfOk result IsSome }
     {

@@ -15,7 +15,7 @@ use Rattle.rc_tree.specs.Tree.{Tree, Node}
 use Rattle.rc_tree.proofs.Keys.{name_cmp-total, key_cmp-total, name_cmp-IsAntisymmetric, same_key, key_itself, below_apart}
 use Rattle.rc_volume.specs.Site.{ComesAfter, IsListed, IsNext, IsEnd, Lists, entry_of}
 use Rattle.rc_filter.specs.Decided.{is_in_root}
-use Rattle.rc_plan.specs.Roots.{AreRootOf, are_in_order, root_nodes, root_key, keyed, shown, last_listed}
+use Rattle.rc_plan.specs.Roots.{AreRootOf, are_in_order, root_nodes, root_key, keyed_entry, shown, last_listed}
 
 pub first_part : (a b : Bool) → T (a && b) → T a
 first_part true b p = tt
@@ -190,7 +190,7 @@ Comes-same names a b f entry p q h =
 pub record Listed (tree : Tree) (sofar : List Entry) : Type 0 where
   pub rest : List (List (List ℕ) × Node)
   pub left : Remains tree (last_listed sofar) rest
-  pub whole : map keyed sofar ++ map shown rest ≡ map shown (root_nodes tree)
+  pub whole : map keyed_entry sofar ++ map shown rest ≡ map shown (root_nodes tree)
 
 pub Listed-none : (tree : Tree) → Listed tree []
 Listed-none tree = record { rest = root_nodes tree; left = Remains-start tree; whole = refl }
@@ -202,16 +202,16 @@ Listed-more tree sofar entry listed next =
       rest = first.others;
       left = subst (λ (after : Option (List ℕ)). Remains tree after first.others) (sym (last_listed-push sofar entry)) first.left;
       whole =
-          ap (λ (es : List (List (List ℕ) × Entry)). es ++ map shown first.others) (map-append keyed sofar (entry ∷ []))
-          ∙ append_assoc (map keyed sofar) (keyed entry ∷ []) (map shown first.others)
-          ∙ ap (λ (x : Entry). map keyed sofar ++ (root_key entry, x) ∷ map shown first.others) first.is_shown
-          ∙ ap (λ (es : List (List (List ℕ) × Node)). map keyed sofar ++ map shown es) (sym first.is)
+          ap (λ (es : List (List (List ℕ) × Entry)). es ++ map shown first.others) (map-append keyed_entry sofar (entry ∷ []))
+          ∙ append_assoc (map keyed_entry sofar) (keyed_entry entry ∷ []) (map shown first.others)
+          ∙ ap (λ (x : Entry). map keyed_entry sofar ++ (root_key entry, x) ∷ map shown first.others) first.is_shown
+          ∙ ap (λ (es : List (List (List ℕ) × Node)). map keyed_entry sofar ++ map shown es) (sym first.is)
           ∙ listed.whole;
     }
 
 pub Listed-all : (tree : Tree) (sofar : List Entry) → Listed tree sofar → IsEnd tree [] (last_listed sofar) → AreRootOf tree sofar
 Listed-all tree sofar listed end =
-    sym (append-nil (map keyed sofar)) ∙ ap (λ (es : List (List (List ℕ) × Node)). map keyed sofar ++ map shown es) (sym (Remains-end tree (last_listed sofar) listed.rest listed.left end)) ∙ listed.whole
+    sym (append-nil (map keyed_entry sofar)) ∙ ap (λ (es : List (List (List ℕ) × Node)). map keyed_entry sofar ++ map shown es) (sym (Remains-end tree (last_listed sofar) listed.rest listed.left end)) ∙ listed.whole
 
 -- The order of what was listed, on every site
 
@@ -223,24 +223,24 @@ pub is_less : (r : Ordering) → r ≡ Less → T (is_lt r)
 is_less r e = subst (λ (o : Ordering). T (is_lt o)) (sym e) tt
 
 -- a new last entry lies above all before it where it lies above the last one
-below_more : (key : List (List ℕ)) (entries : List Entry) (entry : Entry) → T (below_all key_cmp key (map keyed entries)) → key_cmp key (root_key entry) ≡ Less → T (below_all key_cmp key (map keyed (entries ++ entry ∷ [])))
+below_more : (key : List (List ℕ)) (entries : List Entry) (entry : Entry) → T (below_all key_cmp key (map keyed_entry entries)) → key_cmp key (root_key entry) ≡ Less → T (below_all key_cmp key (map keyed_entry (entries ++ entry ∷ [])))
 below_more key [] entry below e = both _ _ (is_less _ e) tt
 below_more key (first ∷ entries) entry below e = both _ _ (first_part _ _ below) (below_more key entries entry (second_part _ _ below) e)
 
-above_first : (first : Entry) (entries : List Entry) (entry : Entry) → T (is_sorted key_cmp (map keyed (first ∷ entries))) → ComesAfter (last_listed (first ∷ entries)) (folded entry.name) → key_cmp (root_key first) (root_key entry) ≡ Less
+above_first : (first : Entry) (entries : List Entry) (entry : Entry) → T (is_sorted key_cmp (map keyed_entry (first ∷ entries))) → ComesAfter (last_listed (first ∷ entries)) (folded entry.name) → key_cmp (root_key first) (root_key entry) ≡ Less
 above_first first [] entry sorted later = keys_less (folded first.name) (folded entry.name) later
 above_first first (next ∷ entries) entry sorted later =
     key_cmp-total.trans (root_key first) (root_key next) (root_key entry)
     (less _ (first_part _ _ (first_part _ _ sorted)))
-    (above_first next entries entry (second_part (below_all key_cmp (root_key first) (map keyed (next ∷ entries))) _ sorted) later)
+    (above_first next entries entry (second_part (below_all key_cmp (root_key first) (map keyed_entry (next ∷ entries))) _ sorted) later)
 
-sorted_more : (entries : List Entry) (entry : Entry) → T (is_sorted key_cmp (map keyed entries)) → ComesAfter (last_listed entries) (folded entry.name) → T (is_sorted key_cmp (map keyed (entries ++ entry ∷ [])))
+sorted_more : (entries : List Entry) (entry : Entry) → T (is_sorted key_cmp (map keyed_entry entries)) → ComesAfter (last_listed entries) (folded entry.name) → T (is_sorted key_cmp (map keyed_entry (entries ++ entry ∷ [])))
 sorted_more [] entry sorted later = tt
 sorted_more (first ∷ []) entry sorted later = both _ _ (below_more (root_key first) [] entry tt (above_first first [] entry sorted later)) (sorted_more [] entry tt tt)
 sorted_more (first ∷ next ∷ entries) entry sorted later =
     both _ _
     (below_more (root_key first) (next ∷ entries) entry (first_part _ _ sorted) (above_first first (next ∷ entries) entry sorted later))
-    (sorted_more (next ∷ entries) entry (second_part (below_all key_cmp (root_key first) (map keyed (next ∷ entries))) _ sorted) later)
+    (sorted_more (next ∷ entries) entry (second_part (below_all key_cmp (root_key first) (map keyed_entry (next ∷ entries))) _ sorted) later)
 
 pub holds : (b : Bool) → b ≡ true → T b
 holds b e = subst T (sym e) tt

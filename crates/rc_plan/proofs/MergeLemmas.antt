@@ -19,7 +19,7 @@ use Rattle.rc_class.specs.Units.{is_copy}
 use Rattle.rc_job.specs.declared.job.Job.{Job}
 use Rattle.rc_filter.specs.Decided.{is_in_root}
 use Rattle.rc_plan.specs.declared.found.Found.{Found}
-use Rattle.rc_plan.specs.Merge.{AreDecided, AreListed, behind, by_key, found_at, item_from, least, placed}
+use Rattle.rc_plan.specs.Merge.{AreDecided, AreListed, behind, by_key, found_at, item_from, least, keyed_found}
 use Rattle.rc_plan.proofs.ListLemmas.{first_part, second_part, both, is_less, less, holds, is_true}
 
 -- the items of two listings, key by key
@@ -35,12 +35,12 @@ same_some x y e = cc
 
 -- Lists in order
 
-below_less : (j k : List (List ℕ)) (es : List Found) → key_cmp j k ≡ Less → T (below_all key_cmp k (map placed es)) → T (below_all key_cmp j (map placed es))
+below_less : (j k : List (List ℕ)) (es : List Found) → key_cmp j k ≡ Less → T (below_all key_cmp k (map keyed_found es)) → T (below_all key_cmp j (map keyed_found es))
 below_less j k [] l below = tt
 below_less j k (e ∷ es) l below =
     both _ _ (is_less _ (key_cmp-total.trans j k (key_of e.path) l (less _ (first_part _ _ below)))) (below_less j k es l (second_part _ _ below))
 
-absent_below : (k : List (List ℕ)) (es : List Found) → T (below_all key_cmp k (map placed es)) → found_at es k ≡ None
+absent_below : (k : List (List ℕ)) (es : List Found) → T (below_all key_cmp k (map keyed_found es)) → found_at es k ≡ None
 absent_below k [] below = refl
 absent_below k (e ∷ es) below =
     ap (λ r. cond (is_eq r) (Some e) (found_at es k)) (less _ (first_part _ _ below)) ∙ absent_below k es (second_part _ _ below)
@@ -51,10 +51,10 @@ absent_below k (e ∷ es) below =
 record Takes (all : List Found) (key : List (List ℕ)) (found : Option Found) : Type 0 where
   stands : found_at all key ≡ found
   spelled : IfSome found (λ f. key_of f.path ≡ key)
-  above : T (below_all key_cmp key (map placed (behind found all)))
+  above : T (below_all key_cmp key (map keyed_found (behind found all)))
   others : (q : List (List ℕ)) → eq_by_cmp key_cmp q key ≡ false → found_at (behind found all) q ≡ found_at all q
 
-takes_first : (f : Found) (fs : List Found) → T (is_sorted key_cmp (map placed (f ∷ fs))) → Takes (f ∷ fs) (key_of f.path) (Some f)
+takes_first : (f : Found) (fs : List Found) → T (is_sorted key_cmp (map keyed_found (f ∷ fs))) → Takes (f ∷ fs) (key_of f.path) (Some f)
 takes_first f fs sorted = record {
   stands = ap (λ b. cond b (Some f) (found_at fs (key_of f.path))) (key_itself (key_of f.path));
   spelled = refl;
@@ -62,7 +62,7 @@ takes_first f fs sorted = record {
   others = λ q apart. ap (λ b. cond b (Some f) (found_at fs q)) (sym apart);
 }
 
-takes_none : (all : List Found) (key : List (List ℕ)) → T (below_all key_cmp key (map placed all)) → Takes all key None
+takes_none : (all : List Found) (key : List (List ℕ)) → T (below_all key_cmp key (map keyed_found all)) → Takes all key None
 takes_none all key below = record { stands = absent_below key all below; spelled = tt; above = below; others = λ q apart. refl }
 
 record TakesLeast (s t : List Found) (pair : Option Found × Option Found) : Type 0 where
@@ -70,7 +70,7 @@ record TakesLeast (s t : List Found) (pair : Option Found × Option Found) : Typ
   ours : Takes s key pair.0
   theirs : Takes t key pair.1
 
-takes_by : (r : Ordering) (f g : Found) (fs gs : List Found) → key_cmp (key_of f.path) (key_of g.path) ≡ r → T (is_sorted key_cmp (map placed (f ∷ fs))) → T (is_sorted key_cmp (map placed (g ∷ gs))) → TakesLeast (f ∷ fs) (g ∷ gs) (by_key r f g)
+takes_by : (r : Ordering) (f g : Found) (fs gs : List Found) → key_cmp (key_of f.path) (key_of g.path) ≡ r → T (is_sorted key_cmp (map keyed_found (f ∷ fs))) → T (is_sorted key_cmp (map keyed_found (g ∷ gs))) → TakesLeast (f ∷ fs) (g ∷ gs) (by_key r f g)
 takes_by Less f g fs gs e ours theirs = record {
   key = key_of f.path;
   ours = takes_first f fs ours;
@@ -89,18 +89,18 @@ takes_by Greater f g fs gs e ours theirs =
       theirs = takes_first g gs theirs;
     }
 
-takes_least : (s t : List Found) → T (is_sorted key_cmp (map placed s)) → T (is_sorted key_cmp (map placed t)) → TakesLeast s t (least s t)
+takes_least : (s t : List Found) → T (is_sorted key_cmp (map keyed_found s)) → T (is_sorted key_cmp (map keyed_found t)) → TakesLeast s t (least s t)
 takes_least [] [] ours theirs = record { key = []; ours = takes_none [] [] tt; theirs = takes_none [] [] tt }
 takes_least (f ∷ fs) [] ours theirs = record { key = key_of f.path; ours = takes_first f fs ours; theirs = takes_none [] (key_of f.path) tt }
 takes_least [] (g ∷ gs) ours theirs = record { key = key_of g.path; ours = takes_none [] (key_of g.path) tt; theirs = takes_first g gs theirs }
 takes_least (f ∷ fs) (g ∷ gs) ours theirs = takes_by (key_cmp (key_of f.path) (key_of g.path)) f g fs gs refl ours theirs
 
-sorted_behind : (found : Option Found) (all : List Found) → T (is_sorted key_cmp (map placed all)) → T (is_sorted key_cmp (map placed (behind found all)))
+sorted_behind : (found : Option Found) (all : List Found) → T (is_sorted key_cmp (map keyed_found all)) → T (is_sorted key_cmp (map keyed_found (behind found all)))
 sorted_behind None all sorted = sorted
 sorted_behind (Some f) [] sorted = tt
-sorted_behind (Some f) (g ∷ gs) sorted = second_part (below_all key_cmp (key_of g.path) (map placed gs)) _ sorted
+sorted_behind (Some f) (g ∷ gs) sorted = second_part (below_all key_cmp (key_of g.path) (map keyed_found gs)) _ sorted
 
-below_behind : (key : List (List ℕ)) (found : Option Found) (all : List Found) → T (below_all key_cmp key (map placed all)) → T (below_all key_cmp key (map placed (behind found all)))
+below_behind : (key : List (List ℕ)) (found : Option Found) (all : List Found) → T (below_all key_cmp key (map keyed_found all)) → T (below_all key_cmp key (map keyed_found (behind found all)))
 below_behind key None all below = below
 below_behind key (Some f) [] below = tt
 below_behind key (Some f) (g ∷ gs) below = second_part (is_lt (key_cmp key (key_of g.path))) _ below
@@ -153,7 +153,7 @@ item_size job moment (Some f) y item e small copied = subst (λ (i : Item). i.fa
 -- Laws of the merge
 
 -- the firsts of lists above a key lie above it
-firsts_above : (key : List (List ℕ)) (s t : List Found) → T (below_all key_cmp key (map placed s)) → T (below_all key_cmp key (map placed t)) → FirstAre (λ x. T (is_lt (key_cmp key (key_of x.path)))) (λ x. T (is_lt (key_cmp key (key_of x.path)))) (least s t)
+firsts_above : (key : List (List ℕ)) (s t : List Found) → T (below_all key_cmp key (map keyed_found s)) → T (below_all key_cmp key (map keyed_found t)) → FirstAre (λ x. T (is_lt (key_cmp key (key_of x.path)))) (λ x. T (is_lt (key_cmp key (key_of x.path)))) (least s t)
 firsts_above key [] [] ours theirs = record { ours = tt; theirs = tt }
 firsts_above key (f ∷ fs) [] ours theirs = record { ours = first_part _ _ ours; theirs = tt }
 firsts_above key [] (g ∷ gs) ours theirs = record { ours = tt; theirs = first_part _ _ theirs }
@@ -161,7 +161,7 @@ firsts_above key (f ∷ fs) (g ∷ gs) ours theirs =
     first_by (λ x. T (is_lt (key_cmp key (key_of x.path)))) (λ x. T (is_lt (key_cmp key (key_of x.path)))) (key_cmp (key_of f.path) (key_of g.path)) f g (first_part _ _ ours) (first_part _ _ theirs)
 
 -- items lie above a key below which nothing was found
-below_items : (job : Job) (moment : ℕ) (key : List (List ℕ)) (s t : List Found) (items : List Item) → Merges job moment s t items → T (below_all key_cmp key (map placed s)) → T (below_all key_cmp key (map placed t)) → T (below_all key_cmp key (map keyed items))
+below_items : (job : Job) (moment : ℕ) (key : List (List ℕ)) (s t : List Found) (items : List Item) → Merges job moment s t items → T (below_all key_cmp key (map keyed_found s)) → T (below_all key_cmp key (map keyed_found t)) → T (below_all key_cmp key (map keyed items))
 below_items job moment key s t items ends ours theirs = tt
 below_items job moment key s t items (steps u v item others e rest) ours theirs =
     let firsts = firsts_above key u v ours theirs in
@@ -170,7 +170,7 @@ below_items job moment key s t items (steps u v item others e rest) ours theirs 
     (below_items job moment key (behind (least u v).0 u) (behind (least u v).1 v) others rest (below_behind key (least u v).0 u ours) (below_behind key (least u v).1 v theirs))
 
 -- the items are in the order of their keys
-sorted_items : (job : Job) (moment : ℕ) (s t : List Found) (items : List Item) → Merges job moment s t items → T (is_sorted key_cmp (map placed s)) → T (is_sorted key_cmp (map placed t)) → T (is_sorted key_cmp (map keyed items))
+sorted_items : (job : Job) (moment : ℕ) (s t : List Found) (items : List Item) → Merges job moment s t items → T (is_sorted key_cmp (map keyed_found s)) → T (is_sorted key_cmp (map keyed_found t)) → T (is_sorted key_cmp (map keyed items))
 sorted_items job moment s t items ends ours theirs = tt
 sorted_items job moment s t items (steps u v item others e rest) ours theirs =
     let takes = takes_least u v ours theirs in
@@ -180,7 +180,7 @@ sorted_items job moment s t items (steps u v item others e rest) ours theirs =
     (sorted_items job moment _ _ others rest (sorted_behind (least u v).0 u ours) (sorted_behind (least u v).1 v theirs))
 
 -- at each key they have the item of what the two sides have there
-items_at : (job : Job) (moment : ℕ) (s t : List Found) (items : List Item) → Merges job moment s t items → T (is_sorted key_cmp (map placed s)) → T (is_sorted key_cmp (map placed t)) → (key : List (List ℕ)) → item_at items key ≡ item_from job moment (found_at s key) (found_at t key)
+items_at : (job : Job) (moment : ℕ) (s t : List Found) (items : List Item) → Merges job moment s t items → T (is_sorted key_cmp (map keyed_found s)) → T (is_sorted key_cmp (map keyed_found t)) → (key : List (List ℕ)) → item_at items key ≡ item_from job moment (found_at s key) (found_at t key)
 items_at job moment s t items ends ours theirs key = refl
 items_at job moment s t items (steps u v item others e rest) ours theirs key =
     let takes = takes_least u v ours theirs in

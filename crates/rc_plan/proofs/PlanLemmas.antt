@@ -17,8 +17,8 @@ use Rattle.rc_job.specs.declared.job.Job.{Job}
 use Rattle.rc_filter.specs.Decided.{decided_at, is_file, is_file_kind, is_in_root, item_of, spelling_of}
 use Rattle.rc_volume.specs.Site.{Told, entry_of}
 use Rattle.rc_plan.specs.declared.found.Found.{Found}
-use Rattle.rc_plan.specs.Merge.{AreListed, found_at, found_of, item_from, placed}
-use Rattle.rc_plan.specs.Roots.{AreRootOf, AreRootsOf, are_built, are_files, are_in_order, are_listed_built, are_small, has_files, is_small, keyed, root_key, root_nodes, shown}
+use Rattle.rc_plan.specs.Merge.{AreListed, found_at, found_of, item_from, keyed_found}
+use Rattle.rc_plan.specs.Roots.{AreRootOf, AreRootsOf, are_built, are_files, are_in_order, are_listed_built, are_small, has_files, is_small, keyed_entry, root_key, root_nodes, shown}
 use Rattle.rc_plan.proofs.ListLemmas.{get_kept}
 
 pub first_of : (a b : Bool) → a && b ≡ true → a ≡ true
@@ -31,15 +31,15 @@ second_of false b e = absurd (true≢false (sym e))
 
 -- Files that were listed
 
-below_same : (key : List (List ℕ)) (entries : List Entry) → below_all key_cmp key (map placed (map found_of entries)) ≡ below_all key_cmp key (map keyed entries)
+below_same : (key : List (List ℕ)) (entries : List Entry) → below_all key_cmp key (map keyed_found (map found_of entries)) ≡ below_all key_cmp key (map keyed_entry entries)
 below_same key [] = refl
 below_same key (entry ∷ entries) = ap (λ b. is_lt (key_cmp key (root_key entry)) && b) (below_same key entries)
 
-sorted_same : (entries : List Entry) → is_sorted key_cmp (map placed (map found_of entries)) ≡ is_sorted key_cmp (map keyed entries)
+sorted_same : (entries : List Entry) → is_sorted key_cmp (map keyed_found (map found_of entries)) ≡ is_sorted key_cmp (map keyed_entry entries)
 sorted_same [] = refl
 sorted_same (entry ∷ entries) =
-    ap (λ b. b && is_sorted key_cmp (map placed (map found_of entries))) (below_same (root_key entry) entries)
-    ∙ ap (λ b. below_all key_cmp (root_key entry) (map keyed entries) && b) (sorted_same entries)
+    ap (λ b. b && is_sorted key_cmp (map keyed_found (map found_of entries))) (below_same (root_key entry) entries)
+    ∙ ap (λ b. below_all key_cmp (root_key entry) (map keyed_entry entries) && b) (sorted_same entries)
 
 file_kind : (k : Kind) → is_file_kind k ≡ true → k ≡ File
 file_kind File e = refl
@@ -95,7 +95,7 @@ ours_small job source target found e all asked = subst (All (λ f. f.facts.size 
 
 -- What was listed, and the tree
 
-all_keyed : (test : Entry → Bool) (entries : List Entry) → list_all test entries ≡ list_all (λ (x : List (List ℕ) × Entry). test x.1) (map keyed entries)
+all_keyed : (test : Entry → Bool) (entries : List Entry) → list_all test entries ≡ list_all (λ (x : List (List ℕ) × Entry). test x.1) (map keyed_entry entries)
 all_keyed test [] = refl
 all_keyed test (entry ∷ entries) = ap (λ b. test entry && b) (all_keyed test entries)
 
@@ -120,9 +120,9 @@ built_so job told source target ours theirs result roots p q e =
     built_same job told source target roots
     ∙ sym (ap (λ (xs : List Entry). are_listed_built job xs theirs) p ∙ ap (λ (ys : List Entry). are_listed_built job source ys) q) ∙ sym e
 
-placed_keyed : (entries : List Entry) → map placed (map found_of entries) ≡ map (λ (x : List (List ℕ) × Entry). (x.0, found_of x.1)) (map keyed entries)
-placed_keyed [] = refl
-placed_keyed (entry ∷ entries) = ap (λ (es : List (List (List ℕ) × Found)). placed (found_of entry) ∷ es) (placed_keyed entries)
+found_entries : (entries : List Entry) → map keyed_found (map found_of entries) ≡ map (λ (x : List (List ℕ) × Entry). (x.0, found_of x.1)) (map keyed_entry entries)
+found_entries [] = refl
+found_entries (entry ∷ entries) = ap (λ (es : List (List (List ℕ) × Found)). keyed_found (found_of entry) ∷ es) (found_entries entries)
 
 found_shown : (nodes : List (List (List ℕ) × Node)) (key : List (List ℕ)) → find key_cmp key (map (λ (x : List (List ℕ) × Entry). (x.0, found_of x.1)) (map shown nodes)) ≡ option_map (λ (node : Node). found_of (entry_of node)) (find key_cmp key nodes)
 found_shown [] key = refl
@@ -138,7 +138,7 @@ find_root tree key = sym (get-entries (retain_keys tree is_in_root) key) ∙ get
 -- what a listing has at a key is what the tree has there, in its root
 found_root : (tree : Tree) (entries : List Entry) (key : List (List ℕ)) → AreRootOf tree entries → found_at (map found_of entries) key ≡ option_map (λ (node : Node). found_of (entry_of node)) (cond (is_in_root key) (get tree key) None)
 found_root tree entries key root =
-    ap (find key_cmp key) (placed_keyed entries ∙ ap (map (λ (x : List (List ℕ) × Entry). (x.0, found_of x.1))) root)
+    ap (find key_cmp key) (found_entries entries ∙ ap (map (λ (x : List (List ℕ) × Entry). (x.0, found_of x.1))) root)
     ∙ found_shown (root_nodes tree) key
     ∙ ap (option_map (λ (node : Node). found_of (entry_of node))) (find_root tree key)
 

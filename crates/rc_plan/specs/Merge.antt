@@ -21,16 +21,16 @@ found_of entry = record {
 }
 
 -- one that was found, under its key
-abbrev pub placed : Found → List (List ℕ) × Found
-placed found = (key_of found.path, found)
+abbrev pub keyed_found : Found → List (List ℕ) × Found
+keyed_found found = (key_of found.path, found)
 
 -- the one at a key
 abbrev pub found_at : List Found → List (List ℕ) → Option Found
-found_at all key = find key_cmp key (map placed all)
+found_at all key = find key_cmp key (map keyed_found all)
 
 -- files of a root, in the order of their keys
 pub record AreListed (all : List Found) : Type 0 where
-  pub rising : is_sorted key_cmp (map placed all) ≡ true
+  pub rising : is_sorted key_cmp (map keyed_found all) ≡ true
   pub files : All (λ found. found.facts.kind ≡ File) all
   pub roots : All (λ found. is_in_root (key_of found.path) ≡ true) all
 

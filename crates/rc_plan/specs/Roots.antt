@@ -23,16 +23,16 @@ abbrev pub root_key : Entry → List (List ℕ)
 root_key entry = folded entry.name ∷ []
 
 -- the entry under its key
-abbrev pub keyed : Entry → List (List ℕ) × Entry
-keyed entry = (root_key entry, entry)
+abbrev pub keyed_entry : Entry → List (List ℕ) × Entry
+keyed_entry entry = (root_key entry, entry)
 
 -- the entries are those of a tree's root, in the order of their keys
 abbrev pub AreRootOf : Tree → List Entry → Type 0
-AreRootOf tree found = map keyed found ≡ map shown (root_nodes tree)
+AreRootOf tree found = map keyed_entry found ≡ map shown (root_nodes tree)
 
 -- the keys rise strictly
 abbrev pub are_in_order : List Entry → Bool
-are_in_order found = is_sorted key_cmp (map keyed found)
+are_in_order found = is_sorted key_cmp (map keyed_entry found)
 
 -- the name of the last entry that was listed
 abbrev pub last_listed : List Entry → Option (List ℕ)

@@ -1,8 +1,8 @@
-//! Reports of plans with every class and act, and what a sink that fails receives.
+//! Reports of plans with every class and act.
 
 ghost use Rattle.std.specs.Prelude.{true};
 
-use crate::{Row, Totals, bits, count_totals, report_to};
+use crate::{bits, count_totals, report_to};
 use rc_class::{Act, After, Class, Facts, Item, Items, Plan, Reason};
 use rc_tree::{Attr, Kind, Moment, Path, Text};
 use rc_volume::{Sink, SinkErr};
@@ -57,15 +57,6 @@ const NOTHING: &[(&str, u64, Act, Class)] = &[];
 
 const NO_REPORT: &str =
     "\n              Total    Copied   Skipped  Mismatch    FAILED    Extras\n   Dirs :         0         0         0         0         0         0\n  Files :         0         0         0         0         0         0\n  Bytes :         0         0         0         0         0         0\n";
-
-const NO_ROW: Row = Row {
-    total: 0,
-    copied: 0,
-    skipped: 0,
-    mismatch: 0,
-    failed: 0,
-    extras: 0,
-};
 
 // A sink that keeps what it receives, and fails where it has no room left.
 #[derive(Drop)]
@@ -145,77 +136,6 @@ fn reports_what_was_decided(rt: HostRuntime) -> Result<(), Fail> {
         report_to(alloc, &mut sink, &plan)?;
         assert_eq!(rt; str::from_utf8(sink.bytes.as_slice())?, report);
         assert_eq!(rt; bits(&count_totals(&plan)), set);
-    }
-    Ok(())
-}
-
-#[test]
-fn counts_directories_beside_files(rt: HostRuntime) -> Result<(), Fail> {
-    let alloc = rt.alloc();
-    let dirs = Row {
-        total: 4,
-        copied: 1,
-        skipped: 2,
-        mismatch: 1,
-        failed: 0,
-        extras: 2,
-    };
-    let totals = Totals {
-        dirs,
-        files: NO_ROW,
-        bytes: NO_ROW,
-    };
-    assert_eq!(rt; count_totals(&plan(alloc, Kind::Dir, DIRS)?), totals);
-    Ok(())
-}
-
-#[test]
-fn sets_a_bit_for_each_kind_of_count(rt: HostRuntime) {
-    let some = Row {
-        total: 9,
-        copied: 1,
-        skipped: 9,
-        mismatch: 2,
-        failed: 3,
-        extras: 4,
-    };
-    for (dirs, files, set) in [
-        (NO_ROW, NO_ROW, 0),
-        (some, NO_ROW, 14),
-        (NO_ROW, some, 15),
-        (
-            Row {
-                total: 9,
-                skipped: 9,
-                ..NO_ROW
-            },
-            Row {
-                extras: u128::MAX,
-                ..NO_ROW
-            },
-            2,
-        ),
-    ] {
-        let totals = Totals {
-            dirs,
-            files,
-            bytes: some,
-        };
-        assert_eq!(rt; bits(&totals), set);
-    }
-}
-
-// At each place of the report.
-#[test]
-fn leaves_a_front_where_the_sink_fails(rt: HostRuntime) -> Result<(), Fail> {
-    let alloc = rt.alloc();
-    let plan = plan(alloc, Kind::Dir, DIRS)?;
-    let report = DIRS_REPORT.as_bytes();
-    for room in 0..report.len() {
-        let mut sink = SmallSink::new(alloc, room);
-        assert_eq!(rt; report_to(alloc, &mut sink, &plan), Err(SinkErr::Failed));
-        assert_eq!(rt; sink.failures, 1);
-        assert!(rt; sink.bytes.as_slice() == &report[..room]);
     }
     Ok(())
 }

@@ -14,11 +14,12 @@ use Rattle.rc_tree.specs.Path.{key_of, key_cmp}
 use Rattle.rc_tree.specs.Tree.{Tree, Node}
 use Rattle.rc_tree.proofs.Keys.{key_cmp-total, same_key, key_itself, below_apart}
 use Rattle.rc_class.specs.declared.decision.Act.{Act}
-use Rattle.rc_class.specs.declared.decision.Act.TheVariants.{Copy, Make, Touch, Fix, Purge, Extra, Mismatch, Keep}
+use Rattle.rc_class.specs.declared.decision.Act.TheVariants.{Copy}
 use Rattle.rc_class.specs.declared.item.Item.{Item}
-use Rattle.rc_class.specs.Goal.{goal_of_act, goal_of_extra, is_left}
+use Rattle.rc_class.specs.Goal.{is_left}
 use Rattle.rc_class.specs.Items.{keyed, item_at, are_rising}
 use Rattle.rc_class.specs.Units.{is_copy}
+use Rattle.rc_class.proofs.Left.{left_stays}
 use Rattle.rc_filter.specs.Decided.{IsCopyable}
 use Rattle.rc_volume.specs.declared.want.Want.{Want}
 use Rattle.rc_volume.specs.Reading.{Opens}
@@ -149,28 +150,7 @@ doable_still copying items i item source start from now rising l is doable same 
 
 -- what an act that leaves all leaves
 pub left_so : (copying : Copying) (item : Item) (source target : Option Node) → is_left item.act ≡ true → goal_under copying (Some item) source target ≡ target
-left_so copying item None target left = extra item.act left
-  where
-    extra : (act : Act) → is_left act ≡ true → goal_of_extra act target ≡ target
-    extra Copy e = refl
-    extra Make e = refl
-    extra Touch e = refl
-    extra Fix e = refl
-    extra Purge e = absurd (true≢false (sym e))
-    extra Extra e = refl
-    extra Mismatch e = refl
-    extra (Keep reason) e = refl
-left_so copying item (Some node) target left = kept item.act left
-  where
-    kept : (act : Act) → is_left act ≡ true → goal_of_act copying.rules copying.with_bytes copying.moment act node target ≡ target
-    kept Copy e = absurd (true≢false (sym e))
-    kept Make e = absurd (true≢false (sym e))
-    kept Touch e = absurd (true≢false (sym e))
-    kept Fix e = absurd (true≢false (sym e))
-    kept Purge e = absurd (true≢false (sym e))
-    kept Extra e = refl
-    kept Mismatch e = refl
-    kept (Keep reason) e = refl
+left_so copying = left_stays copying.rules copying.with_bytes copying.moment
 
 -- What the target has when a copy fails
 

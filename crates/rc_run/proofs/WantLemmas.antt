@@ -5,7 +5,7 @@ use Rattle.std.specs.List.{range_with_len}
 use Rattle.rc_class.specs.declared.item.Item.{Item}
 use Rattle.rc_class.specs.Units.{is_copy, range_at, ranges_of, unit_of}
 use Rattle.rc_volume.specs.declared.want.Want.{Want}
-use Rattle.rc_run.specs.Copying.{Opens}
+use Rattle.rc_run.specs.Copying.{AddsWants}
 use Rattle.rc_run.specs.Goal.{wants_in, wants_of}
 use Rattle.rc_run.specs.Reading.{is_read, whole_file, whole_files}
 
@@ -42,7 +42,7 @@ wants_are_whole with_bytes (item ∷ items) =
     ∙ before_rest (is_read with_bytes item) item (filter (is_read with_bytes) items)
 
 -- what was opened for the whole files stays open
-pub opens_whole : {T E : Type 0} (result : Result T E) (with_bytes : Bool) (items : List Item) (old mid new : List Want) → mid ≡ old ++ whole_files with_bytes items → new ≡ mid → Opens result (wants_of 0 with_bytes items) old new
+pub opens_whole : {T E : Type 0} (result : Result T E) (with_bytes : Bool) (items : List Item) (old mid new : List Want) → mid ≡ old ++ whole_files with_bytes items → new ≡ mid → AddsWants result (wants_of 0 with_bytes items) old new
 opens_whole (Ok x) with_bytes items old mid new first second =
     second ∙ first ∙ ap (λ (wants : List Want). old ++ wants) (sym (wants_are_whole with_bytes items))
 opens_whole (Err e) with_bytes items old mid new first second =

@@ -9,7 +9,7 @@ use Rattle.rc_run.specs.declared.outcome.Outcome.{Outcome}
 use Rattle.rc_run.specs.declared.outcome.Outcome.TheVariants.{NotYet}
 use Rattle.rc_run.specs.declared.outcome.Unbuilt.TheVariants as unbuilt
 use Rattle.rc_run.specs.declared.words.Request.{Request}
-use Rattle.rc_run.specs.Words.{are_built, are_letters, asked, asked_behind, has_letter, is_plain, job_by, lacks_word, texts}
+use Rattle.rc_run.specs.Words.{is_request, are_letters, asked, asked_behind, has_letter, is_plain, job_by, lacks_word, texts}
 
 -- a word of some bytes is plain where each byte is
 pub is_plain-some : (word : List ℕ) (r : Bool) → eqb (length word) 0 ≡ false → r ≡ list_all is_ascii_alphanumeric word → r ≡ is_plain word
@@ -48,12 +48,12 @@ one_asked bs b u e =
 
 abbrev by_bytes : List ℕ → List ℕ → List ℕ → List ℕ → List (List ℕ) → Result Request Outcome
 by_bytes source target first second switches =
-    if are_built first second switches
+    if is_request first second switches
     then Ok (record { source = source; target = target; job = job_by switches })
     else Err (NotYet unbuilt.Words)
 
 -- and two roots with switches
-pub behind_asked : {A : Type 0} (source target : List ℕ) (switches : List (String A)) (b : Bool) → IsUtf8 source → IsUtf8 target → are_built source target (map (λ w. string_bytes w) switches) ≡ b → asked_behind (chars source) (chars target) (texts switches) ≡ (if b then Ok (record { source = chars source; target = chars target; job = job_by (map (λ w. string_bytes w) switches) }) else Err (NotYet unbuilt.Words))
+pub behind_asked : {A : Type 0} (source target : List ℕ) (switches : List (String A)) (b : Bool) → IsUtf8 source → IsUtf8 target → is_request source target (map (λ w. string_bytes w) switches) ≡ b → asked_behind (chars source) (chars target) (texts switches) ≡ (if b then Ok (record { source = chars source; target = chars target; job = job_by (map (λ w. string_bytes w) switches) }) else Err (NotYet unbuilt.Words))
 behind_asked source target switches b u v e =
     ap (λ (first : List ℕ). by_bytes (chars source) (chars target) first (encode_utf8_all (chars target)) (map encode_utf8_all (texts switches))) (bytes_of_chars source u)
     ∙ ap (λ (second : List ℕ). by_bytes (chars source) (chars target) source second (map encode_utf8_all (texts switches))) (bytes_of_chars target v)

@@ -5,6 +5,8 @@ use Rattle.rc_filter.specs.Acts.{rules_of}
 use Rattle.rc_plan.specs.Plan.{start_in}
 use Rattle.rc_plan.specs.Roots.{are_built}
 use Rattle.rc_report.specs.Report.{bits_of, report_of, totals_of}
+use Rattle.rc_volume.specs.declared.binding.Binding.{Binding}
+use Rattle.rc_volume.specs.declared.want.Want.{Want}
 use Rattle.rc_volume.specs.Site.{Told}
 use Rattle.rc_volume.specs.Streams.{AppendsFront}
 use Rattle.rc_run.specs.declared.copying.Copying.{Copying}
@@ -13,8 +15,8 @@ use Rattle.rc_run.specs.declared.outcome.Outcome.TheVariants.{NotYet, NoMemory}
 use Rattle.rc_run.specs.declared.outcome.Unbuilt.TheVariants as unbuilt
 use Rattle.rc_run.specs.declared.words.Request.{Request}
 use Rattle.rc_run.specs.Copying.{AreBetween}
-use Rattle.rc_run.specs.Goal.{IsMirrored, items_at}
-use Rattle.rc_run.specs.Outcome.{IsOrNoMemory, at_copies, at_limits, at_record, at_report, at_words, ending, finished, first_step, last_step, refused}
+use Rattle.rc_run.specs.Goal.{IsMirrored, items_at, wants_of}
+use Rattle.rc_run.specs.Outcome.{IfDone, IsOrNoMemory, at_copies, at_limits, at_record, at_report, at_roots, at_words, ending, finished, first_step, last_step, refused}
 
 -- At its start
 
@@ -65,6 +67,26 @@ pub record Leaves (job : Job) (moment : ℕ) (start end : Told) (outcome : Outco
   pub between : AreBetween (copying_of job moment) (items_at job start moment) start end.target
   pub source : end.source ≡ start.source
   pub notes : end.notes ≡ start.notes
+
+-- all that a run of a job reads, where it began at this moment
+abbrev pub read_by : Job → ℕ → Told → List Want
+read_by job moment start = wants_of 0 job.copy.data_bytes (items_at job start moment)
+
+-- what readers were made for when a run has ended: as before, or these wants behind it, as at Done
+abbrev pub IsOpened : Outcome → List Want → List Want → List Want → Type 0
+IsOpened outcome wants old new =
+    ((new ≡ old) ⊎ (new ≡ old ++ wants)) × IfDone outcome (λ _ _. new ≡ old ++ wants)
+
+-- how roots were named when a run has ended: as before, or once more and so, as behind that step
+abbrev pub IsNamed : Outcome → Binding → List Binding → List Binding → Type 0
+IsNamed outcome binding old new =
+    ((new ≡ old) ⊎ (new ≡ old ++ binding ∷ []))
+    × (at_roots < first_step (ending outcome) → new ≡ old ++ binding ∷ [])
+
+-- nothing was sent, unless both trees are the goals by now
+abbrev pub IsSilentBefore : List ℕ → List ℕ → Job → ℕ → Told → Told → Type 0
+IsSilentBefore received_old received_new job moment start end =
+    (received_new ≡ received_old) ⊎ IsMirrored (start_in job start) moment end
 
 -- what a run sends to its report, where site and sink tell
 pub record Sends (job : Job) (moment : ℕ) (start : Told) (outcome : Outcome) (old new : List ℕ) : Type 0 where

@@ -1,5 +1,5 @@
 -- What the steps of copying do to the target, when they are done and when they end in a fault.
-use Rattle.std.specs.Prelude.{◌≡◌, ◌⊎◌, ℕ, ◌≤◌, Bool, true, false, max, List, ◌++◌, Option, Some, None, option_map, length, Result, Ok, Err, if◌then◌else◌}
+use Rattle.std.specs.Prelude.{◌≡◌, ◌⊎◌, ℕ, ◌≤◌, Bool, true, false, max, All, List, ◌++◌, Option, Some, None, option_map, length, Result, Ok, Err, if◌then◌else◌}
 use Rattle.std.specs.FinMap.{get}
 use Rattle.rc_tree.specs.declared.attr.Kind.TheVariants.{File}
 use Rattle.rc_tree.specs.declared.props.Props.{Props}
@@ -20,7 +20,7 @@ use Rattle.rc_volume.specs.declared.site.SiteErr.TheVariants as site_err
 use Rattle.rc_volume.specs.declared.want.Want.{Want}
 use Rattle.rc_volume.specs.Faults.{Cause, Counts, free, on, part_for}
 use Rattle.rc_volume.specs.Frames.{ChangesAt}
-use Rattle.rc_volume.specs.Site.{Change, Becomes, Comes, Maybe, Told, Turns, Seen, fresh_file, node_at, with_props}
+use Rattle.rc_volume.specs.Site.{Change, Becomes, Comes, Maybe, Told, Turns, Seen, ReadsFrom, fresh_file, node_at, with_props}
 use Rattle.rc_run.specs.declared.copying.CopyErr.{CopyErr}
 use Rattle.rc_run.specs.declared.copying.CopyErr.TheVariants as copy_err
 use Rattle.rc_run.specs.declared.copying.Copying.{Copying}
@@ -61,6 +61,19 @@ pub record IsDoable (item : Item) (source target : Option Node) : Type 0 where
 -- at its key
 abbrev pub IsDoableIn : Tree → Tree → Item → Type 0
 IsDoableIn source target item = IsDoable item (get source (key_of item.path)) (get target (key_of item.path))
+
+-- each two sides have what their item says
+abbrev pub AreDoable : Told → List Item → Type 0
+AreDoable start items = All (IsDoableIn start.source start.target) items
+
+-- the target is what it has to be at each key once these items are done
+abbrev pub AreDone : Copying → List Item → Told → Told → Type 0
+AreDone copying items start now =
+    (key : List (List ℕ)) → get now.target key ≡ after_items copying items start.source start.target key
+
+-- a reader tells the bytes of the source, in the ranges for which it was made
+abbrev pub ReadsSource : Bool → List Want → (List (List ℕ) → List ℕ) → Seen → Type 0
+ReadsSource tells wants bytes seen = (tells ≡ true) × ReadsFrom seen.told.source wants bytes
 
 -- On the way
 
@@ -167,6 +180,6 @@ pub record CopiesFiles (tells : Bool) (cause : Cause) (old new : Seen) : Type 0 
   pub counts : Counts cause old.faults new.faults
 
 -- at Ok these are added, and else perhaps
-abbrev pub Opens : {T E : Type 0} → Result T E → List Want → List Want → List Want → Type 0
-Opens (Ok value) wants old new = new ≡ old ++ wants
-Opens (Err e) wants old new = (new ≡ old) ⊎ (new ≡ old ++ wants)
+abbrev pub AddsWants : {T E : Type 0} → Result T E → List Want → List Want → List Want → Type 0
+AddsWants (Ok value) wants old new = new ≡ old ++ wants
+AddsWants (Err e) wants old new = (new ≡ old) ⊎ (new ≡ old ++ wants)

@@ -5,7 +5,8 @@ use Rattle.rc_volume.specs.declared.site.Part.{Part}
 use Rattle.rc_volume.specs.declared.site.Part.TheVariants as part
 use Rattle.rc_volume.specs.declared.site.Side.{Side}
 use Rattle.rc_volume.specs.declared.site.Side.TheVariants as side
-use Rattle.rc_volume.specs.Faults.{Cause, free, on, part_for}
+use Rattle.rc_volume.specs.Faults.{Cause, Counts, RisesIf, free, on, part_for}
+use Rattle.rc_volume.specs.Site.{Seen}
 use Rattle.rc_run.specs.declared.outcome.Outcome.{Outcome}
 use Rattle.rc_run.specs.declared.outcome.Outcome.TheVariants.{Done, Usage, NotYet, RootFault, ListFault, RecordFault, SiteFault, SinkFault, NoMemory}
 use Rattle.rc_run.specs.declared.outcome.Unbuilt.{Unbuilt}
@@ -98,10 +99,18 @@ abbrev pub run_cause : {T : Type 0} → Result T Outcome → Cause
 run_cause (Ok value) = free
 run_cause (Err outcome) = cause_of (ending outcome)
 
+-- what an outcome says of a site's counts of faults
+abbrev pub Causes : Outcome → Seen → Seen → Type 0
+Causes outcome old new = Counts (cause_of (ending outcome)) old.faults new.faults
+
 -- whether the report's sink failed
 abbrev pub is_unreported : Ending → Bool
 is_unreported unreported = true
 is_unreported other = false
+
+-- what an outcome says of the sink's count
+abbrev pub CausesInSink : Outcome → ℕ → ℕ → Type 0
+CausesInSink outcome before now = RisesIf (is_unreported (ending outcome)) before now
 
 -- the exit status of an ending without bits
 abbrev pub status_at : Ending → ℕ

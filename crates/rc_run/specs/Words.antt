@@ -1,5 +1,5 @@
 -- What the words of a run ask for, and why others are refused.
-use Rattle.std.specs.Prelude.{ℕ, Bool, false, not, ◌&&◌, ◌||◌, List, [], ◌∷◌, Option, None, Some, String, Result, Ok, Err, is_some, map, take, drop, chars, codes, encode_utf8_all, string_bytes, if◌then◌else◌}
+use Rattle.std.specs.Prelude.{ℕ, Bool, false, not, ◌&&◌, ◌||◌, List, [], ◌∷◌, Option, None, Some, String, Result, Ok, Err, IfOk, IfErr, is_some, map, take, drop, chars, codes, encode_utf8_all, string_bytes, if◌then◌else◌}
 use Rattle.std.specs.Char.{is_ascii_alphanumeric, eq_ignore_ascii_case}
 use Rattle.std.specs.List.{list_any, list_all}
 use Rattle.std.specs.Str.{str_eq_ignore_ascii_case}
@@ -125,13 +125,13 @@ abbrev pub lacks_word : ℕ → Outcome
 lacks_word kind = Usage [] 0 kind
 
 -- two plain roots, and switches that are built behind them
-abbrev pub are_built : List ℕ → List ℕ → List (List ℕ) → Bool
-are_built source target switches = are_roots source target && list_all is_switch switches
+abbrev pub is_request : List ℕ → List ℕ → List (List ℕ) → Bool
+is_request source target switches = are_roots source target && list_all is_switch switches
 
 -- what two roots and switches behind them ask for, where these are built
 abbrev pub asked_behind : List ℕ → List ℕ → List (List ℕ) → Result Request Outcome
 asked_behind source target switches =
-    if are_built (encode_utf8_all source) (encode_utf8_all target) (map encode_utf8_all switches)
+    if is_request (encode_utf8_all source) (encode_utf8_all target) (map encode_utf8_all switches)
     then Ok (record { source = source; target = target; job = job_by (map encode_utf8_all switches) })
     else Err (NotYet unbuilt.Words)
 
@@ -140,6 +140,14 @@ abbrev pub asked : List (List ℕ) → Result Request Outcome
 asked [] = Err (lacks_word 10)
 asked (source ∷ []) = if is_plain (encode_utf8_all source) then Err (lacks_word 11) else Err (NotYet unbuilt.Words)
 asked (source ∷ target ∷ switches) = asked_behind source target switches
+
+-- of what words ask for, where they are accepted
+abbrev pub IfAccepted : List (List ℕ) → (Request → Type 0) → Type 0
+IfAccepted words holds = IfOk (asked words) holds
+
+-- of their refusal, where they are refused
+abbrev pub IfRefused : List (List ℕ) → (Outcome → Type 0) → Type 0
+IfRefused words holds = IfErr (asked words) holds
 
 -- how a site is told the roots of a request
 abbrev pub binding_of : Request → ℕ → Binding

@@ -1,6 +1,6 @@
 //! The copies of a plan's files, one after another.
 
-ghost use Rattle.std.specs.Prelude.{◌≡◌, ◌<◌, ◌≤◌, ◌^◌, ℕ, true, List, All, IfOk, OnOk, IfErr, length, vec_len};
+ghost use Rattle.std.specs.Prelude.{◌≡◌, ◌<◌, ◌≤◌, ◌^◌, true, All, IfOk, OnOk, IfErr, length, vec_len};
 ghost use Rattle.std.specs.FinMap.{get};
 ghost use Rattle.rc_tree.specs.Path.{key_of};
 ghost use Rattle.rc_tree.specs.Tree.{Node};
@@ -8,9 +8,9 @@ ghost use Rattle.rc_class.specs.Units.{is_copy};
 ghost use Rattle.rc_filter.specs.Decided.{is_in_root, IsCopyable};
 ghost use Rattle.rc_volume.specs.declared.site.Side.TheVariants.{Source, Target};
 ghost use Rattle.rc_volume.specs.Frames.{ChangesSide, Looks, MakesReader, opened_by};
-ghost use Rattle.rc_volume.specs.Reading.{Opens as IsOpened};
+ghost use Rattle.rc_volume.specs.Reading.{Opens};
 ghost use Rattle.rc_volume.specs.Site.{IsWithin, ReadsFrom, node_at};
-ghost use Rattle.rc_run.specs.Copying.{after_items, copy_cause, goal_under, fault_of, AreBetween, AreRunnable, ChangesTarget, Copies, CopiesFiles, IsDoable, IsDoableIn, OnTarget, Opens};
+ghost use Rattle.rc_run.specs.Copying.{copy_cause, fault_of, AreBetween, AreDoable, AreDone, AreRunnable, ChangesTarget, AddsWants, Copies, CopiesFiles, IsDoableIn, OnTarget, ReadsSource};
 ghost use Rattle.rc_run.specs.Goal.{wants_of};
 ghost use Rattle.rc_run.specs.Reading.{is_read, whole_file, whole_files};
 
@@ -51,16 +51,14 @@ pub(crate) fn copy_items<S: Site>(
     items: &[Item],
 ) -> Result<(), CopyErr>
     requires runnable { AreRunnable copying.now.with_bytes items.now }
-    requires doable { S.tells ≡ true → let start = (S.view site.old).told in
-        All (IsDoableIn start.source start.target) items.now }
+    requires doable { S.tells ≡ true → AreDoable (S.view site.old).told items.now }
 
     ensures frame { CopiesFiles S.tells (copy_cause result) (S.view site.old) (S.view site.new) }
-    ensures copied { S.tells ≡ true → let start = (S.view site.old).told in
-        OnOk result ((key : List (List ℕ)) → get (S.view site.new).told.target key
-        ≡ after_items copying.now items.now start.source start.target key) }
+    ensures copied { S.tells ≡ true → OnOk result
+        (AreDone copying.now items.now (S.view site.old).told (S.view site.new).told) }
     ensures between { S.tells ≡ true →
         AreBetween copying.now items.now (S.view site.old).told (S.view site.new).told.target }
-    ensures opened { Opens result (wants_of 0 copying.now.with_bytes items.now)
+    ensures opened { AddsWants result (wants_of 0 copying.now.with_bytes items.now)
         (S.view site.old).opened (S.view site.new).opened }
 {
     let Ok(mut buf) = buffer(alloc) else {
@@ -91,15 +89,14 @@ fn copy_durably<S: Site>(
     requires room { 0 < length buf.old }
     requires runnable { AreRunnable copying.now.with_bytes items.now }
     requires wants { S.Reader.wants reader.now ≡ whole_files copying.now.with_bytes items.now }
-    requires told { S.tells ≡ true → (S.Reader.tells ≡ true)
-        × ReadsFrom (S.view site.old).told.source (S.Reader.wants reader.now) (S.Reader.bytes reader.now) }
-    requires doable { S.tells ≡ true → let start = (S.view site.old).told in
-        All (IsDoableIn start.source start.target) items.now }
+    requires told { S.tells ≡ true → ReadsSource S.Reader.tells (S.Reader.wants reader.now)
+        (S.Reader.bytes reader.now) (S.view site.old) }
+    requires doable { S.tells ≡ true → AreDoable (S.view site.old).told items.now }
 
-    ensures frame { ChangesSide S.tells Target (copy_cause result) (S.view site.old) (S.view site.new) }
-    ensures copied { S.tells ≡ true → let start = (S.view site.old).told in
-        OnOk result ((key : List (List ℕ)) → get (S.view site.new).told.target key
-        ≡ after_items copying.now items.now start.source start.target key) }
+    ensures frame { ChangesSide S.tells Target (copy_cause result)
+        (S.view site.old) (S.view site.new) }
+    ensures copied { S.tells ≡ true → OnOk result
+        (AreDone copying.now items.now (S.view site.old).told (S.view site.new).told) }
     ensures between { S.tells ≡ true →
         AreBetween copying.now items.now (S.view site.old).told (S.view site.new).told.target }
 {
@@ -122,7 +119,8 @@ fn open<S: Site>(
     ensures frame { MakesReader S.tells
         (opened_by result (whole_files with_bytes items.now) (S.view site.old).opened)
         (copy_cause result) (S.view site.old) (S.view site.new) }
-    ensures wants { IfOk result (λ reader. S.Reader.wants reader ≡ whole_files with_bytes items.now) }
+    ensures wants { IfOk result
+        (λ reader. S.Reader.wants reader ≡ whole_files with_bytes items.now) }
     ensures bytes { S.tells ≡ true → IfOk result (λ reader. (S.Reader.tells ≡ true)
         × ReadsFrom (S.view site.old).told.source (S.Reader.wants reader) (S.Reader.bytes reader)) }
 {
@@ -186,15 +184,14 @@ fn copy_each<S: Site>(
     requires room { 0 < length buf.old }
     requires runnable { AreRunnable copying.now.with_bytes items.now }
     requires wants { S.Reader.wants reader.now ≡ whole_files copying.now.with_bytes items.now }
-    requires told { S.tells ≡ true → (S.Reader.tells ≡ true)
-        × ReadsFrom (S.view site.old).told.source (S.Reader.wants reader.now) (S.Reader.bytes reader.now) }
-    requires doable { S.tells ≡ true → let start = (S.view site.old).told in
-        All (IsDoableIn start.source start.target) items.now }
+    requires told { S.tells ≡ true → ReadsSource S.Reader.tells (S.Reader.wants reader.now)
+        (S.Reader.bytes reader.now) (S.view site.old) }
+    requires doable { S.tells ≡ true → AreDoable (S.view site.old).told items.now }
 
-    ensures frame { ChangesSide S.tells Target (copy_cause result) (S.view site.old) (S.view site.new) }
-    ensures copied { S.tells ≡ true → let start = (S.view site.old).told in
-        OnOk result ((key : List (List ℕ)) → get (S.view site.new).told.target key
-        ≡ after_items copying.now items.now start.source start.target key) }
+    ensures frame { ChangesSide S.tells Target (copy_cause result)
+        (S.view site.old) (S.view site.new) }
+    ensures copied { S.tells ≡ true → OnOk result
+        (AreDone copying.now items.now (S.view site.old).told (S.view site.new).told) }
     ensures between { S.tells ≡ true →
         AreBetween copying.now items.now (S.view site.old).told (S.view site.new).told.target }
 {
@@ -221,9 +218,9 @@ fn do_item<S: Site>(
     requires small { copying.now.with_bytes ≡ true → is_copy item.now.act ≡ true →
         item.now.facts.size ≤ 2 ^ 40 }
     requires opens { is_read copying.now.with_bytes item.now ≡ true →
-        IsOpened (S.Reader.wants reader.now) (key_of item.now.path) 0 item.now.facts.size }
-    requires told { S.tells ≡ true → (S.Reader.tells ≡ true)
-        × ReadsFrom (S.view site.old).told.source (S.Reader.wants reader.now) (S.Reader.bytes reader.now) }
+        Opens (S.Reader.wants reader.now) (key_of item.now.path) 0 item.now.facts.size }
+    requires told { S.tells ≡ true → ReadsSource S.Reader.tells (S.Reader.wants reader.now)
+        (S.Reader.bytes reader.now) (S.view site.old) }
     requires doable { S.tells ≡ true → let start = (S.view site.old).told in
         IsDoableIn start.source start.target item.now }
 
@@ -254,9 +251,9 @@ fn copy_file<S: Site>(
     requires copy { is_copy item.now.act ≡ true }
     requires small { copying.now.with_bytes ≡ true → item.now.facts.size ≤ 2 ^ 40 }
     requires opens { is_read copying.now.with_bytes item.now ≡ true →
-        IsOpened (S.Reader.wants reader.now) (key_of item.now.path) 0 item.now.facts.size }
-    requires told { S.tells ≡ true → (S.Reader.tells ≡ true)
-        × ReadsFrom (S.view site.old).told.source (S.Reader.wants reader.now) (S.Reader.bytes reader.now) }
+        Opens (S.Reader.wants reader.now) (key_of item.now.path) 0 item.now.facts.size }
+    requires told { S.tells ≡ true → ReadsSource S.Reader.tells (S.Reader.wants reader.now)
+        (S.Reader.bytes reader.now) (S.view site.old) }
     requires copyable { S.tells ≡ true → let key = key_of item.now.path in
         let start = (S.view site.old).told in
         IsCopyable item.now (get start.source key) (get start.target key) }

@@ -6,9 +6,9 @@ ghost use Rattle.rc_tree.specs.Path.{key_of};
 ghost use Rattle.rc_class.specs.Units.{is_copy};
 ghost use Rattle.rc_filter.specs.Decided.{is_in_root};
 ghost use Rattle.rc_volume.specs.Frames.{Looks};
-ghost use Rattle.rc_volume.specs.Reading.{Opens as IsOpened, part_of};
-ghost use Rattle.rc_volume.specs.Site.{HasFile, ReadsFrom, bytes_in, resized, written_at};
-ghost use Rattle.rc_run.specs.Copying.{copy_cause, with_bytes_of, Begins, ChangesTarget, Fills, OnTarget};
+ghost use Rattle.rc_volume.specs.Reading.{Opens, part_of};
+ghost use Rattle.rc_volume.specs.Site.{HasFile, bytes_in, resized, written_at};
+ghost use Rattle.rc_run.specs.Copying.{copy_cause, with_bytes_of, Begins, ChangesTarget, Fills, OnTarget, ReadsSource};
 ghost use Rattle.rc_run.specs.Reading.{is_read};
 
 use crate::copying::{CopyErr, fault};
@@ -63,9 +63,9 @@ pub(crate) fn fill_file<S: Site>(
     requires small { with_bytes ≡ true → item.now.facts.size ≤ 2 ^ 40 }
     requires copy { is_copy item.now.act ≡ true }
     requires opens { is_read with_bytes item.now ≡ true →
-        IsOpened (S.Reader.wants reader.now) (key_of item.now.path) 0 item.now.facts.size }
-    requires told { S.tells ≡ true → (S.Reader.tells ≡ true)
-        × ReadsFrom (S.view site.old).told.source (S.Reader.wants reader.now) (S.Reader.bytes reader.now) }
+        Opens (S.Reader.wants reader.now) (key_of item.now.path) 0 item.now.facts.size }
+    requires told { S.tells ≡ true → ReadsSource S.Reader.tells (S.Reader.wants reader.now)
+        (S.Reader.bytes reader.now) (S.view site.old) }
     requires source { S.tells ≡ true →
         length (bytes_in (get (S.view site.old).told.source (key_of item.now.path)))
         ≡ item.now.facts.size }
@@ -75,8 +75,8 @@ pub(crate) fn fill_file<S: Site>(
     ensures frame { ChangesTarget S.tells (key_of item.now.path) (copy_cause result)
         (S.view site.old) (S.view site.new) }
     ensures filled { S.tells ≡ true → let key = key_of item.now.path in
-        OnTarget key (Fills result
-        (with_bytes_of with_bytes (bytes_in (get (S.view site.old).told.source key))) item.now.facts.size)
+        let bytes = bytes_in (get (S.view site.old).told.source key) in
+        OnTarget key (Fills result (with_bytes_of with_bytes bytes) item.now.facts.size)
         (S.view site.old) (S.view site.new) }
     ensures flagged { OnErr result (with_bytes ≡ true) }
 {
@@ -125,7 +125,7 @@ fn copy_bytes<S: Site>(
     buf: &mut [u8],
 ) -> Result<(), CopyErr>
     requires room { 0 < length buf.old }
-    requires opens { 0 < size → IsOpened (S.Reader.wants reader.now) (key_of path.now) 0 size }
+    requires opens { 0 < size → Opens (S.Reader.wants reader.now) (key_of path.now) 0 size }
     requires told { S.tells ≡ true → S.Reader.tells ≡ true }
     requires ready { S.tells ≡ true → HasFile (S.view site.old).told.target (key_of path.now)
         (λ node. length node.bytes ≡ size) }
@@ -165,7 +165,7 @@ fn copy_piece<S: Site>(
     piece: &mut [u8],
 ) -> Result<(), CopyErr>
     requires some_bytes { 0 < length piece.old }
-    requires opens { IsOpened (S.Reader.wants reader.now) (key_of path.now) off (length piece.old) }
+    requires opens { Opens (S.Reader.wants reader.now) (key_of path.now) off (length piece.old) }
     requires told { S.tells ≡ true → S.Reader.tells ≡ true }
     requires within { S.tells ≡ true → HasFile (S.view site.old).told.target (key_of path.now)
         (λ node. off + length piece.old ≤ length node.bytes) }
@@ -195,7 +195,7 @@ fn read_piece<S: Site>(
     off: u64,
     piece: &mut [u8],
 ) -> Result<(), CopyErr>
-    requires { IsOpened (S.Reader.wants reader.now) (key_of path.now) off (length piece.old) }
+    requires { Opens (S.Reader.wants reader.now) (key_of path.now) off (length piece.old) }
 
     ensures frame { Looks S.tells (copy_cause result) (S.view site.old) (S.view site.new) }
     ensures filled { S.Reader.tells ≡ true → OnOk result
@@ -225,8 +225,8 @@ fn put_piece<S: Site>(
 
     ensures frame { ChangesTarget S.tells (key_of path.now) (copy_cause result)
         (S.view site.old) (S.view site.new) }
-    ensures put { S.tells ≡ true → OnTarget (key_of path.now) (Fills result (written_at off piece.now) 0)
-        (S.view site.old) (S.view site.new) }
+    ensures put { S.tells ≡ true → OnTarget (key_of path.now)
+        (Fills result (written_at off piece.now) 0) (S.view site.old) (S.view site.new) }
 {
     match site.put(alloc, Side::Target, path, off, piece) {
         Ok(()) => Ok(()),

@@ -31,7 +31,8 @@ pub(crate) fn finish<S: Site>(
         (S.view site.old) (S.view site.new) }
     ensures finished { S.tells ≡ true → let key = key_of item.now.path in (from : Node) →
         get (S.view site.old).told.source key ≡ Some from →
-        OnTarget key (Finishes result copying.now item.now from) (S.view site.old) (S.view site.new) }
+        OnTarget key (Finishes result copying.now item.now from)
+        (S.view site.old) (S.view site.new) }
 {
     match props_at(alloc, site, Side::Source, &item.path) {
         Ok(Some(source)) => finish_from(alloc, site, copying, item, &source),
@@ -86,8 +87,9 @@ fn props_at<S: Site>(
     requires { is_in_root (key_of path.now) ≡ true }
 
     ensures frame { Looks S.tells (copy_cause result) (S.view site.old) (S.view site.new) }
-    ensures props { S.tells ≡ true → IfOk result (λ props.
-        props ≡ option_map (λ node. node.props) (node_at (S.view site.old).told side (key_of path.now))) }
+    ensures props { S.tells ≡ true →
+        let node = node_at (S.view site.old).told side (key_of path.now) in
+        IfOk result (λ props. props ≡ option_map (λ node. node.props) node) }
 {
     match site.stat(alloc, side, path) {
         Ok(Some(entry)) => Ok(Some(entry.props)),

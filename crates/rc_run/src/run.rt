@@ -6,14 +6,14 @@ ghost use Rattle.rc_plan.specs.Plan.{start_in, IsMadeFor};
 ghost use Rattle.rc_plan.specs.Roots.{are_built};
 ghost use Rattle.rc_report.specs.Report.{bits_of, report_of, totals_of};
 ghost use Rattle.rc_volume.specs.declared.site.Part.{Part};
-ghost use Rattle.rc_volume.specs.Faults.{free, last_count, Counts, RisesIf, RoseBy};
+ghost use Rattle.rc_volume.specs.Faults.{free, last_count, RoseBy};
 ghost use Rattle.rc_volume.specs.Frames.{Binds, IsBound, Looks};
 ghost use Rattle.rc_volume.specs.Streams.{AppendsFront};
-ghost use Rattle.rc_run.specs.Answers.{is_empty, start_refusal, Answers, AreBitsOf, IsExpected, Leaves, Sends};
-ghost use Rattle.rc_run.specs.Copying.{CopiesFiles, Opens};
-ghost use Rattle.rc_run.specs.Goal.{items_at, wants_of, IsMirrored};
-ghost use Rattle.rc_run.specs.Outcome.{at_copies, at_end, at_limits, at_listing, at_record, at_report, at_roots, cause_of, ending, finished, first_step, is_unreported, last_step, run_cause, EndsAt, IfDone, IsOrNoMemory};
-ghost use Rattle.rc_run.specs.Words.{asked, binding_of, texts};
+ghost use Rattle.rc_run.specs.Answers.{is_empty, read_by, start_refusal, Answers, AreBitsOf, IsExpected, IsNamed, IsOpened, IsSilentBefore, Leaves, Sends};
+ghost use Rattle.rc_run.specs.Copying.{CopiesFiles};
+ghost use Rattle.rc_run.specs.Goal.{items_at, wants_of};
+ghost use Rattle.rc_run.specs.Outcome.{at_copies, at_end, at_limits, at_listing, at_record, at_report, at_roots, cause_of, ending, finished, first_step, last_step, run_cause, Causes, CausesInSink, EndsAt, IfDone, IsOrNoMemory};
+ghost use Rattle.rc_run.specs.Words.{asked, binding_of, texts, IfAccepted, IfRefused};
 
 use crate::copying::{CopyErr, Copying, copy_items};
 use crate::words::{Request, read_words};
@@ -51,57 +51,54 @@ pub fn mirror_alone<S: Site, J: JobStore, K: Sink, C: Clock>(
     clock: &mut C,
 ) -> Ended<S>
     // Words that are refused.
-    ensures refused { IfErr (asked (texts words.now)) (λ refusal. IsOrNoMemory refusal result.outcome) }
-    ensures untouched { IfErr (asked (texts words.now)) (λ _.
+    ensures refused { IfRefused (texts words.now)
+        (λ refusal. IsOrNoMemory refusal result.outcome) }
+    ensures untouched { IfRefused (texts words.now) (λ _.
         (result.site ≡ site) × (sink.new ≡ sink.old) × (clock.new ≡ clock.old)) }
     ensures jobs { jobs.new ≡ jobs.old }
 
     // Words that are accepted: what is answered, and why.
-    ensures answers { IfOk (asked (texts words.now)) (λ request.
+    ensures answers { IfAccepted (texts words.now) (λ request.
         Answers S.tells request.job (S.view site).told result.outcome) }
-    ensures cause { Counts (cause_of (ending result.outcome))
-        (S.view site).faults (S.view result.site).faults }
-    ensures sink_cause { RisesIf (is_unreported (ending result.outcome))
-        (K.faults sink.old) (K.faults sink.new) }
+    ensures cause { Causes result.outcome (S.view site) (S.view result.site) }
+    ensures sink_cause { CausesInSink result.outcome (K.faults sink.old) (K.faults sink.new) }
     ensures complete { S.tells ≡ true →
-        ((part : Part) → RoseBy 1 ((S.view site).faults part) ((S.view result.site).faults part) → ⊥) →
+        ((part : Part) →
+        RoseBy 1 ((S.view site).faults part) ((S.view result.site).faults part) → ⊥) →
         (RoseBy 1 (K.faults sink.old) (K.faults sink.new) → ⊥) →
         IsExpected (start_refusal (asked (texts words.now)) (S.view site).told) result.outcome }
 
     // What becomes of the site.
-    ensures leaves { S.tells ≡ true → IfOk (asked (texts words.now)) (λ request.
-        Leaves request.job (C.last clock.new) (S.view site).told (S.view result.site).told result.outcome) }
-    ensures opened { S.tells ≡ true → IfOk (asked (texts words.now)) (λ request.
-        let wants = wants_of 0 request.job.copy.data_bytes
-        (items_at request.job (S.view site).told (C.last clock.new)) in
-        let opened = (S.view result.site).opened in
-        ((opened ≡ (S.view site).opened) ⊎ (opened ≡ (S.view site).opened ++ wants))
-        × IfDone result.outcome (λ _ _. opened ≡ (S.view site).opened ++ wants)) }
+    ensures leaves { S.tells ≡ true → IfAccepted (texts words.now) (λ request.
+        Leaves request.job (C.last clock.new)
+        (S.view site).told (S.view result.site).told result.outcome) }
+    ensures opened { S.tells ≡ true → IfAccepted (texts words.now) (λ request.
+        IsOpened result.outcome (read_by request.job (C.last clock.new) (S.view site).told)
+        (S.view site).opened (S.view result.site).opened) }
     ensures unopened { last_step (ending result.outcome) < at_copies →
         (S.view result.site).opened ≡ (S.view site).opened }
-    ensures bound { IfOk (asked (texts words.now)) (λ request.
-        let bound = (S.view site).bound in
-        let named = bound ++ binding_of request (C.last clock.new) ∷ [] in
-        (((S.view result.site).bound ≡ bound) ⊎ ((S.view result.site).bound ≡ named))
-        × (at_roots < first_step (ending result.outcome) → (S.view result.site).bound ≡ named)) }
+    ensures bound { IfAccepted (texts words.now) (λ request.
+        IsNamed result.outcome (binding_of request (C.last clock.new))
+        (S.view site).bound (S.view result.site).bound) }
 
     // What is reported.
-    ensures bits { S.tells ≡ true → IfOk (asked (texts words.now)) (λ request.
+    ensures bits { S.tells ≡ true → IfAccepted (texts words.now) (λ request.
         IfDone result.outcome (AreBitsOf request.job (S.view site).told)) }
     ensures moment { IfDone result.outcome (λ _ moment. moment ≡ C.last clock.new) }
-    ensures sends { S.tells ≡ true → K.tells ≡ true → IfOk (asked (texts words.now)) (λ request.
+    ensures sends { S.tells ≡ true → K.tells ≡ true → IfAccepted (texts words.now) (λ request.
         Sends request.job (C.last clock.new) (S.view site).told result.outcome
         (K.received sink.old) (K.received sink.new)) }
     ensures silent { last_step (ending result.outcome) < at_report →
         K.received sink.new ≡ K.received sink.old }
-    ensures reported { S.tells ≡ true → IfOk (asked (texts words.now)) (λ request.
-        (K.received sink.new ≡ K.received sink.old)
-        ⊎ IsMirrored (start_in request.job (S.view site).told) (C.last clock.new) (S.view result.site).told) }
+    ensures reported { S.tells ≡ true → IfAccepted (texts words.now) (λ request.
+        IsSilentBefore (K.received sink.old) (K.received sink.new)
+        request.job (C.last clock.new) (S.view site).told (S.view result.site).told) }
 
     // The clock is read once behind the words, and never waited by.
     ensures clock { C.tells ≡ true → C.always clock.new ≡ C.always clock.old }
     ensures read { (C.reads clock.new ≡ min (C.reads clock.old + 1) last_count)
-        ⊎ ((C.reads clock.new ≡ C.reads clock.old) × (first_step (ending result.outcome) < at_roots)) }
+        ⊎ ((C.reads clock.new ≡ C.reads clock.old)
+        × (first_step (ending result.outcome) < at_roots)) }
     ensures no_pause { C.pauses clock.new ≡ C.pauses clock.old }
 {
     let mut site = site;
@@ -124,31 +121,28 @@ fn run<S: Site, K: Sink, C: Clock>(
     clock: &mut C,
 ) -> Outcome
     ensures answers { Answers S.tells request.now.job (S.view site.old).told result }
-    ensures cause { Counts (cause_of (ending result)) (S.view site.old).faults (S.view site.new).faults }
-    ensures sink_cause { RisesIf (is_unreported (ending result)) (K.faults sink.old) (K.faults sink.new) }
-    ensures leaves { S.tells ≡ true →
-        Leaves request.now.job (C.last clock.new) (S.view site.old).told (S.view site.new).told result }
-    ensures opened { S.tells ≡ true →
-        let wants = wants_of 0 request.now.job.copy.data_bytes
-        (items_at request.now.job (S.view site.old).told (C.last clock.new)) in
-        let opened = (S.view site.new).opened in
-        ((opened ≡ (S.view site.old).opened) ⊎ (opened ≡ (S.view site.old).opened ++ wants))
-        × IfDone result (λ _ _. opened ≡ (S.view site.old).opened ++ wants) }
+    ensures cause { Causes result (S.view site.old) (S.view site.new) }
+    ensures sink_cause { CausesInSink result (K.faults sink.old) (K.faults sink.new) }
+    ensures leaves { S.tells ≡ true → Leaves request.now.job (C.last clock.new)
+        (S.view site.old).told (S.view site.new).told result }
+    ensures opened { S.tells ≡ true → IsOpened result
+        (read_by request.now.job (C.last clock.new) (S.view site.old).told)
+        (S.view site.old).opened (S.view site.new).opened }
     ensures unopened { last_step (ending result) < at_copies →
         (S.view site.new).opened ≡ (S.view site.old).opened }
-    ensures bound { let bound = (S.view site.old).bound in
-        let named = bound ++ binding_of request.now (C.last clock.new) ∷ [] in
-        (((S.view site.new).bound ≡ bound) ⊎ ((S.view site.new).bound ≡ named))
-        × (at_roots < first_step (ending result) → (S.view site.new).bound ≡ named) }
-    ensures bits { S.tells ≡ true → IfDone result (AreBitsOf request.now.job (S.view site.old).told) }
+    ensures bound { IsNamed result (binding_of request.now (C.last clock.new))
+        (S.view site.old).bound (S.view site.new).bound }
+    ensures bits { S.tells ≡ true →
+        IfDone result (AreBitsOf request.now.job (S.view site.old).told) }
     ensures moment { IfDone result (λ _ moment. moment ≡ C.last clock.new) }
     ensures sends { S.tells ≡ true → K.tells ≡ true →
         Sends request.now.job (C.last clock.new) (S.view site.old).told result
         (K.received sink.old) (K.received sink.new) }
-    ensures silent { last_step (ending result) < at_report → K.received sink.new ≡ K.received sink.old }
-    ensures reported { S.tells ≡ true → (K.received sink.new ≡ K.received sink.old)
-        ⊎ IsMirrored (start_in request.now.job (S.view site.old).told) (C.last clock.new)
-        (S.view site.new).told }
+    ensures silent { last_step (ending result) < at_report →
+        K.received sink.new ≡ K.received sink.old }
+    ensures reported { S.tells ≡ true →
+        IsSilentBefore (K.received sink.old) (K.received sink.new)
+        request.now.job (C.last clock.new) (S.view site.old).told (S.view site.new).told }
     ensures clock { C.tells ≡ true → C.always clock.new ≡ C.always clock.old }
     ensures read { C.reads clock.new ≡ min (C.reads clock.old + 1) last_count }
     ensures no_pause { C.pauses clock.new ≡ C.pauses clock.old }
@@ -175,7 +169,8 @@ fn start<S: Site, C: Clock>(
     ensures bound { IsBound result (binding_of request.now (C.last clock.new))
         (S.view site.old).bound (S.view site.new).bound }
     ensures named { IfErr result (λ e. at_roots < first_step (ending e) →
-        (S.view site.new).bound ≡ (S.view site.old).bound ++ binding_of request.now (C.last clock.new) ∷ []) }
+        let binding = binding_of request.now (C.last clock.new) in
+        (S.view site.new).bound ≡ (S.view site.old).bound ++ binding ∷ []) }
     ensures no_record { S.tells ≡ true → OnOk result ((S.view site.old).told.notes ≡ []) }
     ensures ends { IfErr result (λ e. EndsAt at_roots at_record
         ((e ≡ Outcome.NotYet Unbuilt.Record)
@@ -245,7 +240,8 @@ fn plan<S: Site, C: Clock>(
     clock: &C,
 ) -> Result<Plan, Outcome>
     ensures frame { Looks S.tells (run_cause result) (S.view site.old) (S.view site.new) }
-    ensures plan { S.tells ≡ true → IfOk result (IsPlanOf (start_in job.now (S.view site.old).told)) }
+    ensures plan { S.tells ≡ true →
+        IfOk result (IsPlanOf (start_in job.now (S.view site.old).told)) }
     ensures built { S.tells ≡ true → OnOk result (are_built job.now (S.view site.old).told ≡ true) }
     ensures ends { IfErr result (λ e. EndsAt at_listing at_limits
         ((e ≡ Outcome.NotYet Unbuilt.Trees)
@@ -274,15 +270,14 @@ fn carry_out<S: Site, K: Sink>(
     requires made { IsMadeFor job.now plan.now.moment plan.now }
     requires no_record { S.tells ≡ true → (S.view site.old).told.notes ≡ [] }
 
-    ensures frame { CopiesFiles S.tells (cause_of (ending result)) (S.view site.old) (S.view site.new) }
-    ensures sink_cause { RisesIf (is_unreported (ending result)) (K.faults sink.old) (K.faults sink.new) }
+    ensures frame { CopiesFiles S.tells (cause_of (ending result))
+        (S.view site.old) (S.view site.new) }
+    ensures sink_cause { CausesInSink result (K.faults sink.old) (K.faults sink.new) }
     ensures ends { EndsAt at_copies at_end ⊥ (ending result) }
-    ensures leaves { S.tells ≡ true →
-        Leaves job.now plan.now.moment (S.view site.old).told (S.view site.new).told result }
-    ensures opened { let wants = wants_of 0 job.now.copy.data_bytes plan.now.items in
-        let opened = (S.view site.new).opened in
-        ((opened ≡ (S.view site.old).opened) ⊎ (opened ≡ (S.view site.old).opened ++ wants))
-        × IfDone result (λ _ _. opened ≡ (S.view site.old).opened ++ wants) }
+    ensures leaves { S.tells ≡ true → Leaves job.now plan.now.moment
+        (S.view site.old).told (S.view site.new).told result }
+    ensures opened { IsOpened result (wants_of 0 job.now.copy.data_bytes plan.now.items)
+        (S.view site.old).opened (S.view site.new).opened }
     ensures items { S.tells ≡ true →
         plan.now.items ≡ items_at job.now (S.view site.old).told plan.now.moment }
     ensures bits { IfDone result (λ bits _. bits ≡ bits_of (totals_of plan.now.items)) }
@@ -291,9 +286,11 @@ fn carry_out<S: Site, K: Sink>(
         K.received sink.new ≡ K.received sink.old ++ report_of plan.now.items }
     ensures front { K.tells ≡ true →
         AppendsFront (K.received sink.old) (report_of plan.now.items) (K.received sink.new) }
-    ensures silent { last_step (ending result) < at_report → K.received sink.new ≡ K.received sink.old }
-    ensures reported { S.tells ≡ true → (K.received sink.new ≡ K.received sink.old)
-        ⊎ IsMirrored (start_in job.now (S.view site.old).told) plan.now.moment (S.view site.new).told }
+    ensures silent { last_step (ending result) < at_report →
+        K.received sink.new ≡ K.received sink.old }
+    ensures reported { S.tells ≡ true →
+        IsSilentBefore (K.received sink.old) (K.received sink.new)
+        job.now plan.now.moment (S.view site.old).told (S.view site.new).told }
 {
     let copying = Copying {
         rules: rules(job),
@@ -313,7 +310,7 @@ fn carry_out<S: Site, K: Sink>(
 
 // Writes the report of a plan.
 fn write_report<K: Sink>(alloc: Global, sink: &mut K, plan: &Plan) -> Outcome
-    ensures sink_cause { RisesIf (is_unreported (ending result)) (K.faults sink.old) (K.faults sink.new) }
+    ensures sink_cause { CausesInSink result (K.faults sink.old) (K.faults sink.new) }
     ensures ends { EndsAt at_report at_end ⊥ (ending result) }
     ensures no_fault { cause_of (ending result) ≡ free }
     ensures bits { IfDone result (λ bits _. bits ≡ bits_of (totals_of plan.now.items)) }

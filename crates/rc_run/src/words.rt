@@ -4,7 +4,7 @@ ghost use Rattle.std.specs.Prelude.{◌≡◌, ◌⊎◌, ◌<◌, ◌∷◌, []
 ghost use Rattle.std.specs.List.{list_all, list_any};
 ghost use Rattle.std.specs.Str.{str_eq_ignore_ascii_case};
 ghost use Rattle.rc_run.specs.Outcome.{at_roots, ending, first_step};
-ghost use Rattle.rc_run.specs.Words.{are_built, are_letters, are_roots, asked, asked_behind, class_switches, copy_letters, copy_of, gives, has, has_letter, is_among, is_plain, is_switch, job_by, lacks_word, listed_letters, named_letters, texts};
+ghost use Rattle.rc_run.specs.Words.{is_request, are_letters, are_roots, asked, asked_behind, class_switches, copy_letters, copy_of, gives, has, has_letter, is_among, is_plain, is_switch, job_by, lacks_word, listed_letters, named_letters, texts};
 
 use crate::{Outcome, Unbuilt};
 use rc_job::{CopyFlags, Job};
@@ -61,7 +61,7 @@ fn read_behind(
         ⊎ (result ≡ Err Outcome.NoMemory) }
     ensures early { IfErr result (λ e. first_step (ending e) < at_roots) }
 {
-    if !are_built(source, target, switches) {
+    if !is_request(source, target, switches) {
         return Err(Outcome::NotYet {
             what: Unbuilt::Words,
         });
@@ -77,8 +77,8 @@ fn read_behind(
 }
 
 // Two plain roots, and switches that are built behind them.
-fn are_built(source: &str, target: &str, switches: &[String]) -> bool
-    ensures { result ≡ are_built source.now target.now (map (λ w. string_bytes w) switches.now) }
+fn is_request(source: &str, target: &str, switches: &[String]) -> bool
+    ensures { result ≡ is_request source.now target.now (map (λ w. string_bytes w) switches.now) }
 {
     are_roots(source, target) && are_switches(switches)
 }
@@ -127,7 +127,8 @@ fn copy_of(words: &[String]) -> CopyFlags
 
 // Whether any of the words speaks of copy flags.
 fn any_copies(words: &[String]) -> bool
-    ensures { result ≡ list_any (λ word. is_some (copy_letters word)) (map (λ w. string_bytes w) words.now) }
+    ensures { result
+        ≡ list_any (λ word. is_some (copy_letters word)) (map (λ w. string_bytes w) words.now) }
 {
     words.iter().any(|word| copies(word))
 }

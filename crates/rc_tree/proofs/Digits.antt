@@ -8,7 +8,7 @@ use Rattle.std.proofs.lemmas.Bool.Decides.{nat_tests}
 use Rattle.rc_tree.specs.declared.attr.Attr.{Attr}
 use Rattle.rc_tree.specs.declared.attr.Kind.{Kind}
 use Rattle.rc_tree.specs.declared.attr.Kind.TheVariants.{File, Dir}
-use Rattle.rc_tree.specs.Attr.{bit, bits_of, stored_of}
+use Rattle.rc_tree.specs.Attr.{bit, attribute_bits, stored_of}
 use mir.Val.{bool_byte}
 
 -- a digit is below 2
@@ -22,8 +22,8 @@ bool_byte-* true w = omega arith
 bool_byte-* false w = omega arith
 
 -- the sum of an attribute's bits by its digits
-pub bits_of-digits : (a : Attr) → bits_of a ≡ bool_byte a.readonly + bool_byte a.hidden * 0x2 + bool_byte a.system * 0x4 + bool_byte a.archive * 0x20 + bool_byte a.temporary * 0x100 + bool_byte a.sparse * 0x200 + bool_byte a.compressed * 0x800 + bool_byte a.offline * 0x1000 + bool_byte a.not_indexed * 0x2000 + bool_byte a.encrypted * 0x4000
-bits_of-digits a = simp (← bool_byte-*) (omega arith)
+pub attribute_bits-digits : (a : Attr) → attribute_bits a ≡ bool_byte a.readonly + bool_byte a.hidden * 0x2 + bool_byte a.system * 0x4 + bool_byte a.archive * 0x20 + bool_byte a.temporary * 0x100 + bool_byte a.sparse * 0x200 + bool_byte a.compressed * 0x800 + bool_byte a.offline * 0x1000 + bool_byte a.not_indexed * 0x2000 + bool_byte a.encrypted * 0x4000
+attribute_bits-digits a = simp (← bool_byte-*) (omega arith)
 
 -- a number that is written in binary: ten attributes and the two bits of a kind
 pub record Digits (n d0 d1 d2 dir d5 normal d8 d9 d11 d12 d13 d14 : ℕ) : Type 0 where
@@ -108,9 +108,9 @@ read_of-digits n dir normal a h =
     rw (e0, e1, e2, e5, e8, e9, e11, e12, e13, e14) refl
 
 -- and from its bits with DIRECTORY or NORMAL beside them
-stored-digits : (n dir normal : ℕ) (a : Attr) → n ≡ bits_of a + dir * 0x10 + normal * 0x80 → dir < 2 → normal < 2 → read_of n ≡ a
+stored-digits : (n dir normal : ℕ) (a : Attr) → n ≡ attribute_bits a + dir * 0x10 + normal * 0x80 → dir < 2 → normal < 2 → read_of n ≡ a
 stored-digits n dir normal a e lt_dir lt_normal = read_of-digits n dir normal a record {
-  sum = omega (arith, bits_of-digits a);
+  sum = omega (arith, attribute_bits-digits a);
   b0 = bool_byte-lt _;
   b1 = bool_byte-lt _;
   b2 = bool_byte-lt _;
@@ -136,7 +136,7 @@ file-some n h = grind (arith, nat_tests)
 pub read_of-stored_of : (kind : Kind) (a : Attr) → read_of (stored_of kind a) ≡ a
 read_of-stored_of Dir a = stored-digits _ 1 0 a (omega arith) (omega arith) (omega arith)
 read_of-stored_of File a =
-    elim (cases_eq (bits_of a) 0) [
-      | inl none ↦ stored-digits _ 0 1 a (file-none (bits_of a) none) (omega arith) (omega arith)
-      | inr some ↦ stored-digits _ 0 0 a (file-some (bits_of a) some) (omega arith) (omega arith)
+    elim (cases_eq (attribute_bits a) 0) [
+      | inl none ↦ stored-digits _ 0 1 a (file-none (attribute_bits a) none) (omega arith) (omega arith)
+      | inr some ↦ stored-digits _ 0 0 a (file-some (attribute_bits a) some) (omega arith) (omega arith)
     ]

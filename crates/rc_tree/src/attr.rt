@@ -1,6 +1,6 @@
 ghost use Rattle.std.specs.Prelude.{◌≡◌, ◌≢◌, ◌<◌, ◌^◌, IfSome, IfNone};
 ghost use Rattle.rc_tree.specs.declared.attr.Attr.{Attr};
-ghost use Rattle.rc_tree.specs.Attr.{bits_of, stored_of, compared};
+ghost use Rattle.rc_tree.specs.Attr.{attribute_bits, stored_of, compared};
 
 /// What an entry is.
 #[derive(Clone, Copy, Debug, PartialEq, Eq)]
@@ -89,7 +89,7 @@ impl Attr {
     }
 
     fn bits(self) -> u32
-        ensures value { result ≡ bits_of self }
+        ensures value { result ≡ attribute_bits self }
         ensures bound { result < 2 ^ 16 }
     {
         u32::from(self.readonly)

@@ -59,8 +59,10 @@ impl Model for Name {
 impl Name {
     /// The name that is spelled `text`.
     pub fn read(alloc: Global, text: &str) -> Result<Name, NameErr>
-        ensures named { IfOk result (λ name. (name ≡ chars text.now) × (name_fault (chars text.now) ≡ None)) }
-        ensures refused { IfErr result (λ e. (e ≡ OutOfMemory) ⊎ (name_fault (chars text.now) ≡ Some e)) }
+        ensures named { IfOk result
+            (λ name. (name ≡ chars text.now) × (name_fault (chars text.now) ≡ None)) }
+        ensures refused { IfErr result
+            (λ e. (e ≡ OutOfMemory) ⊎ (name_fault (chars text.now) ≡ Some e)) }
     {
         match fault_of(text) {
             Some(fault) => Err(fault),

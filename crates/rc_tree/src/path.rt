@@ -85,8 +85,10 @@ impl Path {
 
     /// The path that `text` spells: names with `\` between them. The empty text is the root.
     pub fn read(alloc: Global, text: &str) -> Result<Path, PathErr>
-        ensures named { IfOk result (λ path. (path ≡ names_in (chars text.now)) × (path_fault (names_in (chars text.now)) ≡ None)) }
-        ensures refused { IfErr result (λ e. (e ≡ OutOfMemory) ⊎ (path_fault (names_in (chars text.now)) ≡ Some e)) }
+        ensures named { let names = names_in (chars text.now) in
+            IfOk result (λ path. (path ≡ names) × (path_fault names ≡ None)) }
+        ensures refused { IfErr result
+            (λ e. (e ≡ OutOfMemory) ⊎ (path_fault (names_in (chars text.now)) ≡ Some e)) }
     {
         let mut names = Vec::new(alloc);
         if text.is_empty() {
@@ -121,8 +123,10 @@ impl Path {
 
     /// The path of the entry of this name in the directory of this path. It refuses `TooDeep` alone.
     pub fn join(&self, alloc: Global, name: &Name) -> Result<Path, PathErr>
-        ensures joined { IfOk result (λ path. (path ≡ self.now ++ name.now ∷ []) × (length self.now < 64)) }
-        ensures refused { IfErr result (λ e. (e ≡ OutOfMemory) ⊎ ((e ≡ PathErr.TooDeep) × (64 ≤ length self.now))) }
+        ensures joined { IfOk result
+            (λ path. (path ≡ self.now ++ name.now ∷ []) × (length self.now < 64)) }
+        ensures refused { IfErr result
+            (λ e. (e ≡ OutOfMemory) ⊎ ((e ≡ PathErr.TooDeep) × (64 ≤ length self.now))) }
     {
         if self.names.len() >= GREATEST_DEPTH {
             return Err(PathErr::TooDeep);
@@ -183,8 +187,10 @@ impl Path {
 
 // The name that a path's part spells; `place` is the number of parts before it.
 fn read_part(alloc: Global, part: &str, place: usize) -> Result<Name, PathErr>
-    ensures named { IfOk result (λ name. (name ≡ chars part.now) × (fault_at place (name_fault (chars part.now)) None ≡ None) × (place < 64)) }
-    ensures refused { IfErr result (λ e. (e ≡ OutOfMemory) ⊎ (fault_at place (name_fault (chars part.now)) None ≡ Some e)) }
+    ensures named { let fault = fault_at place (name_fault (chars part.now)) None in
+        IfOk result (λ name. (name ≡ chars part.now) × (fault ≡ None) × (place < 64)) }
+    ensures refused { let fault = fault_at place (name_fault (chars part.now)) None in
+        IfErr result (λ e. (e ≡ OutOfMemory) ⊎ (fault ≡ Some e)) }
 {
     match Name::read(alloc, part) {
         Ok(name) if place < GREATEST_DEPTH => Ok(name),

@@ -33,7 +33,8 @@ pub trait JobStore {
     /// The bytes of the file of this name; none exactly where there is no such file.
     fn read(&mut self, alloc: Global, name: &Text) -> Result<Option<Vec<u8>>, StoreErr>
         ensures found { tells ≡ true → IfOk result
-            (λ found. option_map (λ bytes. bytes.items) found ≡ get (files self.old) (folded name.now)) }
+            (λ found. option_map (λ bytes. bytes.items) found
+            ≡ get (files self.old) (folded name.now)) }
         ensures same { tells ≡ true → files self.new ≡ files self.old }
         ensures cause { RisesIf (store_failed result) (faults self.old) (faults self.new) };
 

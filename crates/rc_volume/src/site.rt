@@ -81,7 +81,12 @@ pub trait Site {
         requires { moment ≤ GREATEST_MOMENT }
         ensures frame { Binds tells (bind_cause result) (view self.old) (view self.new) }
         ensures bound { IsBound result
-            (record { source = chars source.now; target = chars target.now; scan = scan; moment = moment })
+            (record {
+              source = chars source.now;
+              target = chars target.now;
+              scan = scan;
+              moment = moment;
+            })
             (view self.old).bound (view self.new).bound };
 
     /// The entry of a directory with the least folded name above that of `after`, or the first one; none at the end.
@@ -106,8 +111,9 @@ pub trait Site {
         requires { 0 < length path.now }
         ensures frame { Looks tells (side_cause side result) (view self.old) (view self.new) }
         ensures tree { tells ≡ true → IsTree (tree_in (view self.old) side) }
-        ensures found { tells ≡ true → IfOk result
-            (λ found. found ≡ option_map entry_of (node_at (view self.old).told side (key_of path.now))) }
+        ensures found { tells ≡ true →
+            let node = node_at (view self.old).told side (key_of path.now) in
+            IfOk result (λ found. found ≡ option_map entry_of node) }
         ensures no_size { IfOk result
             (λ found. IfSome found (λ entry. entry.kind ≡ Dir → entry.size ≡ 0)) };
 
@@ -172,7 +178,8 @@ pub trait Site {
 
     /// How many bytes the record has.
     fn record_len(&mut self, alloc: Global) -> Result<u64, SiteErr>
-        ensures frame { Looks tells (part_cause Part.Record result) (view self.old) (view self.new) }
+        ensures frame { Looks tells (part_cause Part.Record result)
+            (view self.old) (view self.new) }
         ensures length { tells ≡ true → IfOk result
             (λ len. len ≡ length (view self.old).told.notes) };
 

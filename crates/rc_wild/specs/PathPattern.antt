@@ -31,17 +31,17 @@ abbrev pub parts_of : List ℕ → List (List ℕ)
 parts_of text = filter is_part (slice_split is_separator text)
 
 -- the parts behind a root's, where the first ones equal the root's by folding
-abbrev pub behind : List (List ℕ) → List (List ℕ) → Option (List (List ℕ))
-behind [] parts = Some parts
-behind (root ∷ roots) [] = None
-behind (root ∷ roots) (part ∷ parts) =
-    if bytes_eq (folded root) (folded part) then behind roots parts else None
+abbrev pub behind_root : List (List ℕ) → List (List ℕ) → Option (List (List ℕ))
+behind_root [] parts = Some parts
+behind_root (root ∷ roots) [] = None
+behind_root (root ∷ roots) (part ∷ parts) =
+    if bytes_eq (folded root) (folded part) then behind_root roots parts else None
 
 -- a value's parts behind those of the source root, or else of the target root, or else all of them
 abbrev pub asked_parts : List ℕ → List ℕ → List ℕ → List (List ℕ)
 asked_parts source target value =
     let parts = parts_of value in
-    unwrap_or (option_or (behind (parts_of source) parts) (behind (parts_of target) parts)) parts
+    unwrap_or (option_or (behind_root (parts_of source) parts) (behind_root (parts_of target) parts)) parts
 
 -- a part matches a name; one that holds `:` matches none
 abbrev pub matches_part : List ℕ → List ℕ → Bool

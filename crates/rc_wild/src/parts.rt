@@ -3,15 +3,15 @@ ghost use Rattle.std.specs.Prelude.{◌≡◌, ◌<◌, ◌==◌, [], ◌∷◌,
 ghost use Rattle.std.specs.List.{list_any};
 ghost use Rattle.std.specs.Str.{bytes_eq};
 ghost use Rattle.rc_tree.specs.Name.{folded};
-ghost use Rattle.rc_wild.specs.PathPattern.{is_part, parts_of, behind};
+ghost use Rattle.rc_wild.specs.PathPattern.{is_part, parts_of, behind_root};
 
 use crate::fault::is_separator;
 use crate::text::is_empty;
 use unicode::case::simple_fold;
 
 // What follows a root's parts in a value, where the value's first parts equal them by folding.
-pub(crate) fn behind<'a>(root: &str, value: &'a str) -> Option<&'a str>
-    ensures { let found = behind (parts_of (chars root.now)) (parts_of (chars value.now)) in
+pub(crate) fn behind_root<'a>(root: &str, value: &'a str) -> Option<&'a str>
+    ensures { let found = behind_root (parts_of (chars root.now)) (parts_of (chars value.now)) in
         MatchOption result (found ≡ None) (λ rest. found ≡ Some (parts_of (chars rest.now))) }
 {
     let mut roots = root;

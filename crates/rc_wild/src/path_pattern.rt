@@ -5,7 +5,7 @@ ghost use Rattle.rc_wild.specs.PathPattern.{path_pattern_fault, parts_of, asked_
 
 use crate::PatternErr;
 use crate::fault::path_pattern_fault;
-use crate::parts::{behind, has_colon, next_part};
+use crate::parts::{behind_root, has_colon, next_part};
 use crate::walk::matches_name;
 use rc_tree::{Name, NoMemory, Path};
 use std::alloc::Global;
@@ -83,9 +83,9 @@ fn asked_parts<'a>(source: &str, target: &str, value: &'a str) -> &'a str
     ensures { parts_of (chars result.now)
         ≡ asked_parts (chars source.now) (chars target.now) (chars value.now) }
 {
-    match behind(source, value) {
+    match behind_root(source, value) {
         Some(rest) => rest,
-        None => match behind(target, value) {
+        None => match behind_root(target, value) {
             Some(below) => below,
             None => value,
         },

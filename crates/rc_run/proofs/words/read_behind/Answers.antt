@@ -4,14 +4,14 @@ use Rattle.rc_run.specs.Words.{job_by}
 use Rattle.rc_run.proofs.WordLemmas.{behind_asked}
 use Rattle.rc_run.proofs.words.read_behind.Goals as goal
 
-pub returns-then-not-are_built-clause-asked : goal.returns-then-not-are_built-clause-asked
-returns-then-not-are_built-clause-asked c =
-    inl (sym (behind_asked c.args.source.now c.args.target.now c.args.switches.now false c.utf8.source c.utf8.target (sym c.are_built.ensures ∙ c.if-not-are_built.true)))
+pub returns-then-not-is_request-clause-asked : goal.returns-then-not-is_request-clause-asked
+returns-then-not-is_request-clause-asked c =
+    inl (sym (behind_asked c.args.source.now c.args.target.now c.args.switches.now false c.utf8.source c.utf8.target (sym c.is_request.ensures ∙ c.if-not-is_request.true)))
 
 pub returns-in-Ok-Ok-clause-asked : goal.returns-in-Ok-Ok-clause-asked
 returns-in-Ok-Ok-clause-asked c =
     let source = c.in-Ok-Ok.ensures in
     let target = c.in-Ok-Ok.ensures' in
     let job = c.job_by.ensures in
-    let asks = behind_asked c.args.source.now c.args.target.now c.args.switches.now true c.utf8.source c.utf8.target (sym c.are_built.ensures ∙ c.if-not-are_built.false) in
+    let asks = behind_asked c.args.source.now c.args.target.now c.args.switches.now true c.utf8.source c.utf8.target (sym c.is_request.ensures ∙ c.if-not-is_request.false) in
     inl ((let e : Ok (record { source = c.in-Ok-Ok.source; target = c.in-Ok-Ok.target; job = c.job_by.result }) ≡ Ok (record { source = chars c.args.source.now; target = chars c.args.target.now; job = job_by (map (λ w. string_bytes w) c.args.switches.now) }) = cc in e) ∙ sym asks)
