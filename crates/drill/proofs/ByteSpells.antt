@@ -12,7 +12,7 @@ use Rattle.hex.proofs.HexLemmas.{length-encode_with}
 use Rattle.rc_tree.specs.declared.attr.Attr.{Attr}
 use Rattle.rc_tree.specs.Attr.{no_attr}
 use Rattle.drill.specs.SiteText.{or_dash, letters, flags_of, marked, attr_text, hex_text, is_repeated, content_text, IsSecurity}
-use Rattle.drill.specs.Reading.{letter_at, flags_at, attr_with, attr_at, bytes_at, security_at, times, repeated_at, plain_at, starred_at, content_at}
+use Rattle.drill.specs.Reading.{letter_at, flags_at, attr_with, attr_at, bytes_at, security_at, repeated_byte, repeated_at, plain_at, starred_at, content_at}
 use Rattle.drill.proofs.Appends.{or_dash_some, hex_some}
 use Rattle.drill.proofs.FieldValues.{attr_read}
 use Rattle.drill.proofs.HexLaws.{bytes_take, bytes_again, IsPrintable-hex}
@@ -234,7 +234,7 @@ repeated_text : (size b : ℕ) → 1 < size → content_text (replicate size b) 
 repeated_text zero b lt = absurd (omega arith)
 repeated_text (suc n) b lt = rw (lt-ltb 0 (length (replicate n b)) (omega (arith, length-replicate n b)), all_same n b) refl
 
-times_take : (size : ℕ) (one bytes : List ℕ) → times size one ≡ Some bytes → (b : ℕ) × (one ≡ b ∷ []) × (1 < size) × (replicate size b ≡ bytes)
+times_take : (size : ℕ) (one bytes : List ℕ) → repeated_byte size one ≡ Some bytes → (b : ℕ) × (one ≡ b ∷ []) × (1 < size) × (replicate size b ≡ bytes)
 times_take size [] bytes e = absurd cc
 times_take size (b ∷ []) bytes e = let p = if_some (ltb 1 size) (Some (replicate size b)) bytes e in (b, refl, ltb-true 1 size p.0, some_is (replicate size b) bytes p.1)
 times_take size (b ∷ c ∷ more) bytes e = absurd cc
@@ -242,7 +242,7 @@ times_take size (b ∷ c ∷ more) bytes e = absurd cc
 repeated_takes : (size : ℕ) (digits bytes : List ℕ) → repeated_at size digits ≡ Some bytes → Spelled size (42 ∷ digits) bytes
 unfolding repeated_at
 repeated_takes size digits bytes e =
-    let p = bind_some (bytes_at digits) (times size) bytes e in
+    let p = bind_some (bytes_at digits) (repeated_byte size) bytes e in
     let q = times_take size p.0 bytes p.2 in
     let t = bytes_take digits p.0 p.1 in
     let fits : q.0 < 256 = subst IsBytes q.1 t.1 0 in

@@ -15,7 +15,7 @@ use Rattle.rc_run.specs.declared.outcome.Outcome.TheVariants as out
 use Rattle.rc_run.specs.declared.outcome.Unbuilt.{Unbuilt}
 use Rattle.rc_run.specs.declared.outcome.Unbuilt.TheVariants as unbuilt
 use Rattle.rc_run.specs.declared.words.Request.{Request}
-use Rattle.rc_run.specs.Answers.{AreBitsOf, IsExpected, Leaves, Sends, is_empty, site_refusal, start_refusal}
+use Rattle.rc_run.specs.Answers.{AreBitsOf, IsExpected, RunLeaves, Sends, is_empty, site_refusal, start_refusal}
 use Rattle.rc_run.specs.Goal.{IsMirrored, items_at}
 use Rattle.rc_run.specs.Outcome.{IfDone, at_copies, at_end, at_report, ending, finished, first_step, last_step, status_of}
 use Rattle.rc_report.specs.Report.{bits_of, totals_of}
@@ -29,7 +29,7 @@ use Rattle.drill.specs.declared.run.Stop.{Stop}
 use Rattle.drill.specs.declared.run.Stop.TheVariants.{Input, SiteText, NoMemory}
 use Rattle.drill.specs.declared.run.TheConstants.{GREATEST_TEXT}
 use Rattle.drill.specs.declared.site_file.SiteFile.{SiteFile}
-use Rattle.drill.specs.Drilling.{Drills, IsCutIn, IsNoSite, IsSiteText, OfSome, Prints, Writes, WritesOne, drill_text, told_of, whole_line}
+use Rattle.drill.specs.Drilling.{Drills, IsCutIn, IsNoSite, IsSiteText, OfSome, Prints, WritesOut, WritesOne, drill_text, told_of, whole_line}
 use Rattle.drill.specs.Finishing.{Ends, refusal_line, stop_failed}
 
 -- Stops
@@ -130,7 +130,7 @@ none_read false rest text left taken none no_site = (text, λ t. absurd (true≢
 
 -- What was written
 
-pub wrote_all : (tells : Bool) (old bytes new : List ℕ) (failed : Type 0) (answer : ℕ) → (tells ≡ true → new ≡ old ++ bytes) → OfSome tells new (λ x. Writes failed old bytes answer x answer)
+pub wrote_all : (tells : Bool) (old bytes new : List ℕ) (failed : Type 0) (answer : ℕ) → (tells ≡ true → new ≡ old ++ bytes) → OfSome tells new (λ x. WritesOut failed old bytes answer x answer)
 wrote_all tells old bytes new failed answer is = (old ++ bytes, λ t. sym (is t), inl (refl, refl))
 
 pub AppendsFront-none : (old bytes : List ℕ) → AppendsFront old bytes old
@@ -140,7 +140,7 @@ some_front : (tells : Bool) (old bytes new : List ℕ) → (tells ≡ true → A
 some_front true old bytes new front = (new, λ t. refl, front refl)
 some_front false old bytes new front = (old, λ t. absurd (true≢false (sym t)), AppendsFront-none old bytes)
 
-pub wrote_front : (tells : Bool) (old bytes new : List ℕ) (failed : Type 0) (answer status : ℕ) → (tells ≡ true → AppendsFront old bytes new) → (failed × (status ≡ 16)) ⊎ (status ≡ 32) → OfSome tells new (λ x. Writes failed old bytes answer x status)
+pub wrote_front : (tells : Bool) (old bytes new : List ℕ) (failed : Type 0) (answer status : ℕ) → (tells ≡ true → AppendsFront old bytes new) → (failed × (status ≡ 16)) ⊎ (status ≡ 32) → OfSome tells new (λ x. WritesOut failed old bytes answer x status)
 wrote_front tells old bytes new failed answer status front why =
     let some = some_front tells old bytes new front in
     (some.0, some.1, inr (some.2, why))
@@ -203,7 +203,7 @@ refused_early job told refusal e = by (is_empty told.notes) (are_built job told)
 pub record Runs (words : List (List ℕ)) (moment : ℕ) (start now : Told) (outcome : Outcome) (before report : List ℕ) : Type 0 where
   pub untouched : IfErr (asked words) (λ refusal. (now ≡ start) × (report ≡ before))
   pub expected : IsExpected (start_refusal (asked words) start) outcome
-  pub leaves : IfOk (asked words) (λ request. Leaves request.job moment start now outcome)
+  pub leaves : IfOk (asked words) (λ request. RunLeaves request.job moment start now outcome)
   pub sends : IfOk (asked words) (λ request. Sends request.job moment start outcome before report)
   pub reported : IfOk (asked words) (λ request. (report ≡ before) ⊎ IsMirrored (start_in request.job start) moment now)
   pub bits : IfOk (asked words) (λ request. IfDone outcome (AreBitsOf request.job start))
@@ -227,10 +227,10 @@ cut_end words moment start now outcome report r same = inr (record {
     by_refusal (Ok request) h = tt
     by_refusal (Err refusal) h = (h.1, h.0)
 
-    by_request : (a : Result Request Outcome) → IfOk a (λ request. Leaves request.job moment start now outcome) → IfOk a (λ request. Sends request.job moment start outcome [] report) → IfOk a (λ request. (report ≡ []) ⊎ IsMirrored (start_in request.job start) moment now)
+    by_request : (a : Result Request Outcome) → IfOk a (λ request. RunLeaves request.job moment start now outcome) → IfOk a (λ request. Sends request.job moment start outcome [] report) → IfOk a (λ request. (report ≡ []) ⊎ IsMirrored (start_in request.job start) moment now)
         → IfOk a (λ request. IsCutIn request.job moment start (record { report = report; outcome = outcome; now = now }))
     by_request (Ok request) leaves sends reported = record {
-      leaves = subst (λ (o : Outcome). Leaves request.job moment start now o) same leaves;
+      leaves = subst (λ (o : Outcome). RunLeaves request.job moment start now o) same leaves;
       report = sends.front;
       reported = reported;
     }
@@ -242,7 +242,7 @@ done_end words moment start now outcome report request r asks accepted done =
     let at = finished_done outcome done in
     let bits : IfDone outcome (AreBitsOf request.job start) = subst (λ (a : Result Request Outcome). IfOk a (λ q. IfDone outcome (AreBitsOf q.job start))) asks r.bits in
     let sends : Sends request.job moment start outcome [] report = subst (λ (a : Result Request Outcome). IfOk a (λ q. Sends q.job moment start outcome [] report)) asks r.sends in
-    let leaves : Leaves request.job moment start now outcome = subst (λ (a : Result Request Outcome). IfOk a (λ q. Leaves q.job moment start now outcome)) asks r.leaves in
+    let leaves : RunLeaves request.job moment start now outcome = subst (λ (a : Result Request Outcome). IfOk a (λ q. RunLeaves q.job moment start now outcome)) asks r.leaves in
     let begun : at.1 ≡ moment = subst (λ (o : Outcome). IfDone o (λ b m. m ≡ moment)) at.2 r.begun in
     let counted : AreBitsOf request.job start at.0 at.1 = subst (λ (o : Outcome). IfDone o (AreBitsOf request.job start)) at.2 bits in
     inl (record {
@@ -266,7 +266,7 @@ ends : (words : List (List ℕ)) (moment : ℕ) (start now : Told) (outcome : Ou
     → Ends words moment start (drill_text moment (record { report = report; outcome = outcome; now = now })) (status_of outcome)
 ends words moment start now outcome report r = by_asked (asked words) refl r.expected r.untouched r.leaves
   where
-    by_asked : (a : Result Request Outcome) → asked words ≡ a → IsExpected (start_refusal a start) outcome → IfErr a (λ refusal. (now ≡ start) × (report ≡ [])) → IfOk a (λ request. Leaves request.job moment start now outcome)
+    by_asked : (a : Result Request Outcome) → asked words ≡ a → IsExpected (start_refusal a start) outcome → IfErr a (λ refusal. (now ≡ start) × (report ≡ [])) → IfOk a (λ request. RunLeaves request.job moment start now outcome)
         → Ends words moment start (drill_text moment (record { report = report; outcome = outcome; now = now })) (status_of outcome)
     by_asked (Err refusal) e (inl same) untouched leaves =
         refused_end words moment start now outcome report (ap (λ (a : Result Request Outcome). start_refusal a start) e ∙ ap (λ (o : Outcome). Some o) (sym same)) untouched.1 untouched.0
@@ -331,7 +331,7 @@ file_drilled reads hears input_failed failed words rest file old told status som
 pub stop_drilled : (stop : Stop) (reads hears : Bool) (input_failed failed : Type 0) (words : List (List ℕ)) (rest old told : List ℕ) (status : ℕ)
     → (stop ≡ Input → input_failed)
     → (stop ≡ SiteText → OfSome reads rest IsNoSite)
-    → OfSome hears told (λ new. Writes failed old (refusal_line stop) 16 new status)
+    → OfSome hears told (λ new. WritesOut failed old (refusal_line stop) 16 new status)
     → (stop ≡ NoMemory → (hears ≡ true → told ≡ old) × (status ≡ 32))
     → OfSome reads rest (λ text. OfSome hears told (λ new. Drills input_failed failed words text old new status))
 stop_drilled Input reads hears input_failed failed words rest old told status rose none wrote silent = (

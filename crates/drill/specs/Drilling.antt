@@ -7,7 +7,7 @@ use Rattle.rc_volume.specs.Streams.{AppendsFront}
 use Rattle.rc_run.specs.declared.outcome.Outcome.{Outcome}
 use Rattle.rc_run.specs.declared.outcome.Outcome.TheVariants.{Done, NoMemory}
 use Rattle.rc_run.specs.declared.words.Request.{Request}
-use Rattle.rc_run.specs.Answers.{Leaves, site_refusal, start_refusal}
+use Rattle.rc_run.specs.Answers.{RunLeaves, site_refusal, start_refusal}
 use Rattle.rc_run.specs.Goal.{IsMirrored, items_at}
 use Rattle.rc_run.specs.Outcome.{line_of, status_of}
 use Rattle.rc_run.specs.Words.{asked}
@@ -80,7 +80,7 @@ IsRun words moment start end = IsRefused words start end ⊎ IsCarriedOut words 
 -- what a run of a job leaves that memory stopped: each key of the target as it was, as it should be, or with its copy on
 -- its way; all else as it was; and nothing reported before both trees are the goals
 pub record IsCutIn (job : Job) (moment : ℕ) (start : Told) (end : End) : Type 0 where
-  pub leaves : Leaves job moment start end.now NoMemory
+  pub leaves : RunLeaves job moment start end.now NoMemory
   pub report : AppendsFront [] (report_of (items_at job start moment)) end.report
   pub reported : (end.report ≡ []) ⊎ IsMirrored (start_in job start) moment end.now
 
@@ -129,8 +129,8 @@ Prints input_failed words text printed status =
     ⊎ RunsText (λ file. IsCutShort words file.moment (told_of file)) text printed status
 
 -- all of it was written and that is answered; or a front, where writing failed or memory ran out
-abbrev pub Writes : Type 0 → List ℕ → List ℕ → ℕ → List ℕ → ℕ → Type 0
-Writes output_failed old printed answer new status =
+abbrev pub WritesOut : Type 0 → List ℕ → List ℕ → ℕ → List ℕ → ℕ → Type 0
+WritesOut output_failed old printed answer new status =
     ((new ≡ old ++ printed) × (status ≡ answer))
     ⊎ (AppendsFront old printed new × ((output_failed × (status ≡ 16)) ⊎ (status ≡ 32)))
 
@@ -139,7 +139,7 @@ pub record WritesOne (prints : List ℕ → ℕ → Type 0) (output_failed : Typ
   pub printed : List ℕ
   pub answer : ℕ
   pub is_printed : prints printed answer
-  pub writes : Writes output_failed old printed answer new status
+  pub writes : WritesOut output_failed old printed answer new status
 
 -- the same, or memory ran out before the first byte
 abbrev pub Drills : Type 0 → Type 0 → List (List ℕ) → List ℕ → List ℕ → List ℕ → ℕ → Type 0

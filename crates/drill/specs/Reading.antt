@@ -115,12 +115,12 @@ security_at text =
     if bytes_eq text (codes "-") then Some []
     else bytes_at text >>= λ bytes. if length bytes == 0 || nat_lt 65535 (length bytes) then None else Some bytes
 
-abbrev pub times : ℕ → List ℕ → Option (List ℕ)
-times size (b ∷ []) = if nat_lt 1 size then Some (replicate size b) else None
-times size _ = None
+abbrev pub repeated_byte : ℕ → List ℕ → Option (List ℕ)
+repeated_byte size (b ∷ []) = if nat_lt 1 size then Some (replicate size b) else None
+repeated_byte size _ = None
 
 unfoldable pub repeated_at : ℕ → List ℕ → Option (List ℕ)
-repeated_at size digits = bytes_at digits >>= times size
+repeated_at size digits = bytes_at digits >>= repeated_byte size
 
 unfoldable pub plain_at : ℕ → List ℕ → Option (List ℕ)
 plain_at size text = bytes_at text >>= λ bytes. if not (length bytes == size) || is_repeated bytes then None else Some bytes

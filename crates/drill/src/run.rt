@@ -6,7 +6,7 @@ ghost use Rattle.rc_volume.specs.Faults.{RisesIf, RoseBy};
 ghost use Rattle.rc_volume.specs.Streams.{AppendsFront, input_failed, sink_failed};
 ghost use Rattle.rc_run.specs.Outcome.{line_of, status_of};
 ghost use Rattle.rc_run.specs.Words.{texts};
-ghost use Rattle.drill.specs.Drilling.{Drills, IsNoSite, IsSiteText, OfSome, Writes, WritesOne, drill_text, told_of, status_lines, whole_line};
+ghost use Rattle.drill.specs.Drilling.{Drills, IsNoSite, IsSiteText, OfSome, WritesOut, WritesOne, drill_text, told_of, status_lines, whole_line};
 ghost use Rattle.drill.specs.Finishing.{Ends, end_of, refusal_line, stop_failed};
 
 use crate::err::SiteTextErr;
@@ -170,7 +170,7 @@ fn read_piece<I: Input>(
 
 // Writes why there is no site to run on.
 fn refuse<K: Sink>(alloc: Global, stop: Stop, out: &mut K) -> u8
-    ensures written { OfSome K.tells (K.received out.new) (λ new. Writes
+    ensures written { OfSome K.tells (K.received out.new) (λ new. WritesOut
         (RoseBy 1 (K.faults out.old) (K.faults out.new))
         (K.received out.old) (refusal_line stop) 16 new result) }
     ensures silent { stop ≡ Stop.NoMemory →
@@ -187,7 +187,7 @@ fn refuse<K: Sink>(alloc: Global, stop: Stop, out: &mut K) -> u8
 
 // Writes a line, and answers 16, or 32 where memory runs out.
 fn write_line<K: Sink>(alloc: Global, line: &str, out: &mut K) -> u8
-    ensures written { OfSome K.tells (K.received out.new) (λ new. Writes
+    ensures written { OfSome K.tells (K.received out.new) (λ new. WritesOut
         (RoseBy 1 (K.faults out.old) (K.faults out.new))
         (K.received out.old) line.now 16 new result) }
     ensures counts { K.faults out.old ≤ K.faults out.new }
@@ -239,7 +239,7 @@ fn mirror_file(alloc: Global, args: &[String], file: SiteFile) -> Result<Finishe
 
 // Writes how a run ended, and answers its status, 16 where writing failed, or 32 where memory ran out.
 fn write_finished<K: Sink>(alloc: Global, out: &mut K, moment: u64, finished: &Finished) -> u8
-    ensures written { OfSome K.tells (K.received out.new) (λ new. Writes
+    ensures written { OfSome K.tells (K.received out.new) (λ new. WritesOut
         (RoseBy 1 (K.faults out.old) (K.faults out.new)) (K.received out.old)
         (drill_text moment (end_of finished.now)) (status_of finished.now.ended.outcome)
         new result) }

@@ -17,7 +17,7 @@ left_stays rules with_bytes moment item None target left = extra item.act left
     extra _ e = refl
 left_stays rules with_bytes moment item (Some node) target left = kept item.act left
   where
-    kept : (act : Act) → is_left act ≡ true → goal_of_act rules with_bytes moment act node target ≡ target
+    kept : (act : Act) → is_left act ≡ true → goal_of_act rules with_bytes moment item.class act node target ≡ target
     kept Extra e = refl
     kept Mismatch e = refl
     kept (Keep reason) e = refl

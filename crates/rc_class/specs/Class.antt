@@ -1,5 +1,5 @@
 -- When two written times are the same, and how the two sides of a key compare.
-use Rattle.std.specs.Prelude.{ℕ, Bool, not, ◌&&◌, ◌||◌, ◌==◌, nat_le, nat_lt, if◌then◌else◌, length, Option, Some, None}
+use Rattle.std.specs.Prelude.{ℕ, Bool, true, false, not, ◌&&◌, ◌||◌, ◌==◌, nat_le, nat_lt, if◌then◌else◌, length, Option, Some, None}
 use Rattle.std.specs.Bool.{beq}
 use Rattle.std.specs.Int.{abs_diff}
 use Rattle.rc_tree.specs.declared.attr.Attr.{Attr}
@@ -58,3 +58,20 @@ class_at grain None None = None
 -- the facts of what stands at a key
 abbrev pub facts_of : Node → Facts
 facts_of node = record { kind = node.kind; size = length node.bytes; written = node.props.written; attr = node.props.attr }
+
+-- Classes
+
+-- the target has nothing
+abbrev pub is_lonely : Class → Bool
+is_lonely Lonely = true
+is_lonely _ = false
+
+-- the source has nothing
+abbrev pub is_extra : Class → Bool
+is_extra Extra = true
+is_extra _ = false
+
+-- a file and a directory
+abbrev pub is_mismatched : Class → Bool
+is_mismatched Mismatched = true
+is_mismatched _ = false

@@ -1,16 +1,19 @@
 -- What a run leaves at one key, by what was decided there and by what both sides have there.
 use Rattle.std.specs.Prelude.{ℕ, Bool, true, false, not, ◌&&◌, ◌||◌, [], Option, Some, None, option_map, if◌then◌else◌}
 use Rattle.rc_tree.specs.declared.attr.Attr.{Attr}
+use Rattle.rc_tree.specs.declared.attr.Kind.{Kind}
 use Rattle.rc_tree.specs.declared.attr.Kind.TheVariants.{File, Dir}
 use Rattle.rc_tree.specs.declared.props.Props.{Props}
 use Rattle.rc_tree.specs.Attr.{no_attr}
 use Rattle.rc_tree.specs.Tree.{Node}
+use Rattle.rc_class.specs.declared.class.Class.{Class}
 use Rattle.rc_class.specs.declared.decision.Act.{Act}
 use Rattle.rc_class.specs.declared.decision.Act.TheVariants.{Copy, Make, Touch, Fix, Purge, Extra, Mismatch, Keep}
 use Rattle.rc_class.specs.declared.decision.After.{After}
 use Rattle.rc_class.specs.declared.decision.After.TheVariants.{Nothing, RemoveSource, ClearArchive}
 use Rattle.rc_class.specs.declared.item.Item.{Item}
 use Rattle.rc_class.specs.declared.rules.Rules.{Rules}
+use Rattle.rc_class.specs.Class.{is_lonely}
 
 -- what is flagged is the source's, and all else stands
 abbrev pub picked : {A : Type 0} → Bool → A → A → A
@@ -86,23 +89,31 @@ fresh_props attr moment = record { attr = attr; created = moment; written = mome
 abbrev pub archive_alone : Attr
 archive_alone = record no_attr { archive = true }
 
+-- a new file has A alone, and a new directory has nothing
+abbrev pub fresh_attr : Kind → Attr
+fresh_attr File = archive_alone
+fresh_attr Dir = no_attr
+
 -- Nodes
 
--- the file that stands, or a new one under the source's spelling
-abbrev pub base_file : ℕ → Node → Option Node → Node
-base_file moment source (Some target) = target
-base_file moment source None = record { spelling = source.spelling; kind = File; bytes = []; props = fresh_props archive_alone moment }
+-- a new file, under the source's spelling
+abbrev pub new_file : ℕ → Node → Node
+new_file moment source = record { spelling = source.spelling; kind = File; bytes = []; props = fresh_props (fresh_attr File) moment }
 
-abbrev pub base_directory : ℕ → Node → Option Node → Node
-base_directory moment source (Some target) = target
-base_directory moment source None = record { spelling = source.spelling; kind = Dir; bytes = []; props = fresh_props no_attr moment }
+-- and a new directory
+abbrev pub new_directory : ℕ → Node → Node
+new_directory moment source = record { spelling = source.spelling; kind = Dir; bytes = []; props = fresh_props (fresh_attr Dir) moment }
+
+-- what a copy goes on from: a new file where the target had none when all was decided, and else what stands there
+abbrev pub copy_base : Class → ℕ → Node → Option Node → Option Node
+copy_base class moment source target = if is_lonely class then Some (new_file moment source) else target
 
 abbrev pub copied_file : Rules → Bool → Node → Node → Node
 copied_file rules with_bytes source base =
     record base { bytes = picked with_bytes source.bytes base.bytes; props = copied_props rules source.props base.props }
 
-abbrev pub made_directory : Rules → Node → Node → Node
-made_directory rules source base = record base { props = directory_props rules source.props base.props }
+abbrev pub touched_directory : Rules → Node → Node → Node
+touched_directory rules source base = record base { props = directory_props rules source.props base.props }
 
 abbrev pub fixed_file : Rules → Node → Node → Node
 fixed_file rules source target = record target { props = fixed_props rules source.props target.props }
@@ -118,16 +129,17 @@ is_left Touch = false
 is_left Fix = false
 is_left Purge = false
 
--- what the target has at a key in the end, where the source has this there
-abbrev pub goal_of_act : Rules → Bool → ℕ → Act → Node → Option Node → Option Node
-goal_of_act rules with_bytes moment Copy source target = Some (copied_file rules with_bytes source (base_file moment source target))
-goal_of_act rules with_bytes moment Make source target = Some (made_directory rules source (base_directory moment source target))
-goal_of_act rules with_bytes moment Touch source target = Some (made_directory rules source (base_directory moment source target))
-goal_of_act rules with_bytes moment Fix source target = option_map (fixed_file rules source) target
-goal_of_act rules with_bytes moment Purge source target = None
-goal_of_act rules with_bytes moment Extra source target = target
-goal_of_act rules with_bytes moment Mismatch source target = target
-goal_of_act rules with_bytes moment (Keep reason) source target = target
+-- what the target has at a key in the end, where the source has this there: what a copy of class lonely or a making
+-- leaves is new whatever stands there, and every other act goes on from what stands
+abbrev pub goal_of_act : Rules → Bool → ℕ → Class → Act → Node → Option Node → Option Node
+goal_of_act rules with_bytes moment class Copy source target = option_map (copied_file rules with_bytes source) (copy_base class moment source target)
+goal_of_act rules with_bytes moment class Make source target = Some (touched_directory rules source (new_directory moment source))
+goal_of_act rules with_bytes moment class Touch source target = option_map (touched_directory rules source) target
+goal_of_act rules with_bytes moment class Fix source target = option_map (fixed_file rules source) target
+goal_of_act rules with_bytes moment class Purge source target = None
+goal_of_act rules with_bytes moment class Extra source target = target
+goal_of_act rules with_bytes moment class Mismatch source target = target
+goal_of_act rules with_bytes moment class (Keep reason) source target = target
 
 -- and where the source has nothing there
 abbrev pub goal_of_extra : Act → Option Node → Option Node
@@ -143,7 +155,7 @@ goal_of_extra (Keep reason) target = target
 -- what the target has at a key in the end: as it was where nothing was decided
 abbrev pub target_goal : Rules → Bool → ℕ → Option Item → Option Node → Option Node → Option Node
 target_goal rules with_bytes moment None source target = target
-target_goal rules with_bytes moment (Some item) (Some source) target = goal_of_act rules with_bytes moment item.act source target
+target_goal rules with_bytes moment (Some item) (Some source) target = goal_of_act rules with_bytes moment item.class item.act source target
 target_goal rules with_bytes moment (Some item) None target = goal_of_extra item.act target
 
 -- the source's entry behind its copy

@@ -1,3 +1,5 @@
+//! How the two sides of a key compare: the class of a key.
+
 ghost use Rattle.std.specs.Prelude.{◌≡◌};
 ghost use Rattle.rc_class.specs.Class.{class_at, class_of_files, class_of_kinds, is_same_attr};
 ghost use Rattle.rc_class.specs.Codes.{class_code};
@@ -85,8 +87,8 @@ fn class_of_files(source: Facts, target: Facts, grain: Grain) -> Class
     }
 }
 
-// Whether the compared attributes are the same.
-fn same_attr(a: Attr, b: Attr) -> bool
+/// Whether the compared attributes are the same.
+pub fn same_attr(a: Attr, b: Attr) -> bool
     ensures { result ≡ is_same_attr a b }
 {
     a.compared() == b.compared()

@@ -1,3 +1,5 @@
+//! What is decided of a key: the act, its reason, and what comes after a copy.
+
 ghost use Rattle.std.specs.Prelude.{◌≡◌};
 ghost use Rattle.rc_class.specs.Codes.{act_code, after_code, reason_code};
 ghost use Rattle.rc_class.specs.Units.{is_copy};

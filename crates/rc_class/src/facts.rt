@@ -1,3 +1,5 @@
+//! What an entry is compared by, and how exactly times are compared.
+
 ghost use Rattle.std.specs.Prelude.{◌≡◌};
 ghost use Rattle.rc_class.specs.Class.{width, is_same_time};
 

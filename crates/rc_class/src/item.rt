@@ -1,3 +1,5 @@
+//! Decided keys: an item, and the list of a plan.
+
 ghost use Rattle.std.specs.Prelude.{◌≡◌, IfOk};
 
 use crate::{Act, After, Class, Facts};

@@ -2,8 +2,9 @@
 //! leaves at a key by what was decided there.
 //!
 //! Nothing here sees a job or a site. The layers above say of which key which item is decided; the definitions of this
-//! crate say what such items mean: the goal of a key ([`copied_props`] computes the part that code needs), the plan of a
-//! start, and the units of its copies.
+//! crate say what such items mean: what both sides have there (`IsDecidedIn` in `specs/Sides.antt`), the goal of a key
+//! ([`copied_props`] and [`directory_props`] compute the parts that code needs), the plan of a start, and the units of
+//! its copies.
 #![tactic(auto)]
 
 mod class;
@@ -17,11 +18,11 @@ mod rules;
 #[cfg(test)]
 mod tests;
 
-pub use class::{Class, class_of};
+pub use class::{Class, class_of, same_attr};
 pub use decision::{Act, After, Reason};
 pub use facts::{Facts, Grain, same_time};
 pub use item::{Item, Items};
 pub use laws::{left_keys_stay, one_plan, ranges_fill_a_file};
 pub use plan::{Plan, unit_count};
-pub use props::{copied_props, fresh_props};
+pub use props::{copied_props, directory_props, fresh_props};
 pub use rules::{GivenUp, Rules};

@@ -1,3 +1,5 @@
+//! The plan of a run, and how many units it has.
+
 ghost use Rattle.std.specs.Prelude.{◌≡◌, ◌⊎◌, ◌^◌, ◌≤◌, ◌*◌, true, All, IfOk, length};
 ghost use Rattle.rc_class.specs.Units.{is_copy, item_units, range_count, units_of};
 

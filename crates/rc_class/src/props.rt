@@ -1,8 +1,10 @@
+//! The properties of what is made, copied and touched.
+
 ghost use Rattle.std.specs.Prelude.{◌≡◌, IfOk};
-ghost use Rattle.rc_class.specs.Goal.{adjusted, archive_alone, copied_props, fresh_props, letter, over, picked};
+ghost use Rattle.rc_class.specs.Goal.{adjusted, copied_props, directory_props, fresh_attr, fresh_props, letter, over, picked};
 
 use crate::Rules;
-use rc_tree::{Attr, Moment, NoMemory, Props, Security};
+use rc_tree::{Attr, Kind, Moment, NoMemory, Props, Security};
 use std::alloc::Global;
 
 /// The properties of a file that is copied, where the source's has these and the target's, or a fresh one, had those.
@@ -24,21 +26,51 @@ pub fn copied_props(
     })
 }
 
-/// The properties of a file that is made at a moment, before anything is copied to it: A alone, both times the moment,
-/// and no security.
-pub fn fresh_props(alloc: Global, moment: Moment) -> Props
-    ensures { result ≡ fresh_props archive_alone moment }
+/// The properties of a directory that is made or touched, where the source's has these and the target's, or a fresh
+/// one, had those. Security stays.
+pub fn directory_props(
+    alloc: Global,
+    rules: Rules,
+    source: &Props,
+    old: &Props,
+) -> Result<Props, NoMemory>
+    ensures { IfOk result (λ props. props ≡ directory_props rules source.now old.now) }
+{
+    Ok(Props {
+        attr: if rules.dir_attr {
+            lay_over(source.attr, old.attr)
+        } else {
+            old.attr
+        },
+        created: pick(rules.dir_times, source.created, old.created),
+        written: pick(rules.dir_times, source.written, old.written),
+        access: old.access.copy(alloc)?,
+        owner: old.owner.copy(alloc)?,
+        audit: old.audit.copy(alloc)?,
+    })
+}
+
+/// The properties of an entry that is made at a moment, before anything of the source's goes to it: A alone for a file
+/// and no attribute for a directory, both times the moment, and no security.
+pub fn fresh_props(alloc: Global, kind: Kind, moment: Moment) -> Props
+    ensures { result ≡ fresh_props (fresh_attr kind) moment }
 {
     Props {
-        attr: Attr {
-            archive: true,
-            ..Attr::NONE
-        },
+        attr: fresh_attr(kind),
         created: moment,
         written: moment,
         access: Security::empty(alloc),
         owner: Security::empty(alloc),
         audit: Security::empty(alloc),
+    }
+}
+
+fn fresh_attr(kind: Kind) -> Attr
+    ensures { result ≡ fresh_attr kind }
+{
+    Attr {
+        archive: kind == Kind::File,
+        ..Attr::NONE
     }
 }
 

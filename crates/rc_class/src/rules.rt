@@ -1,3 +1,5 @@
+//! What of an entry goes from source to target, and files that were given up.
+
 use rc_tree::Attr;
 
 /// What of a source entry goes to the target's, besides a file's bytes.

@@ -240,6 +240,36 @@ fn props(
 }
 
 #[test]
+fn gives_a_directory_what_its_flags_name(rt: HostRuntime) -> Result<(), Fail> {
+    let alloc = rt.alloc();
+    let times = (Moment::new(3), Moment::new(9));
+    let source = props(alloc, A_AND_R, times, (b"a\x00", b"", b"\xff"))?;
+    let times = (Moment::new(0), Moment::new(4));
+    let old = props(alloc, stored(0x822)?, times, (b"", b"b", b"cc"))?;
+    // The two flags, the stored attributes in the end, and the times.
+    let cases = [
+        (false, false, 0x832, (0, 4)),
+        (true, false, 0x831, (0, 4)),
+        (false, true, 0x832, (3, 9)),
+        (true, true, 0x831, (3, 9)),
+    ];
+    for (dir_attr, dir_times, attr, times) in cases {
+        let rules = Rules {
+            dir_attr,
+            dir_times,
+            ..NOTHING
+        };
+        let made = directory_props(alloc, rules, &source, &old)?;
+        assert_eq!(rt; made.attr.stored(Kind::Dir), attr);
+        assert_eq!(rt; (made.created.units(), made.written.units()), times);
+        assert_eq!(rt; made.access.bytes(), old.access.bytes());
+        assert_eq!(rt; made.owner.bytes(), old.owner.bytes());
+        assert_eq!(rt; made.audit.bytes(), old.audit.bytes());
+    }
+    Ok(())
+}
+
+#[test]
 fn lays_compared_attributes_over_those_that_stand(rt: HostRuntime) -> Result<(), Fail> {
     let alloc = rt.alloc();
     let times = (Moment::new(0), Moment::new(4));

@@ -1,3 +1,6 @@
-mod Copies
-mod Keys
+mod Fitting
+mod Items
+mod LastNames
+mod Neighbours
+mod Places
 mod Planned

@@ -1,25 +1,31 @@
 -- That a plan has just the items that are decided of the keys of both trees.
-use Rattle.std.proofs.Common.{◌≡◌, ℕ, Bool, true, false, cond, ◌&&◌, ◌||◌, List, [], ◌∷◌, ◌++◌, Option, Some, None, map, refl, sym, ap, subst, ◌∙◌}
+use Rattle.std.proofs.Common.{◌≡◌, ℕ, Bool, true, false, cond, ◌&&◌, List, [], ◌∷◌, ◌++◌, Option, Some, None, map, refl, sym, ap, subst, ◌∙◌}
 use Rattle.std.specs.Prelude.{T, option_map}
 use Rattle.std.specs.List.{cons_option, filter_map}
 use Rattle.std.specs.Ordering.{eq_by_cmp, is_lt}
 use Rattle.std.specs.FinMap.{get, entries, entries_sorted, from_entries, get-entries, get-from_entries}
 use Rattle.std.specs.FinMap.Entries.{find, is_sorted, below_all}
 use Rattle.rc_tree.specs.Path.{key_of, key_cmp}
+use Rattle.rc_tree.specs.Spelled.{spelled}
 use Rattle.rc_tree.specs.Tree.{Node, Tree}
 use Rattle.rc_tree.proofs.Keys.{key_cmp-total, same_key}
 use Rattle.rc_class.specs.declared.item.Item.{Item}
 use Rattle.rc_class.specs.declared.plan.Plan.{Plan}
-use Rattle.rc_class.specs.Class.{facts_of}
 use Rattle.rc_class.specs.Items.{keyed, item_at}
 use Rattle.rc_class.specs.Start.{IsPlanOf}
 use Rattle.rc_class.proofs.Plans.{same_items}
 use Rattle.rc_job.specs.declared.job.Job.{Job}
-use Rattle.rc_filter.specs.Decided.{is_file, is_in_root, item_of, spelled, decided_at, planned_items, start_of}
-use Rattle.rc_filter.proofs.Copies.{some_none, same_some}
+use Rattle.rc_filter.specs.Decided.{decided_at, item_of, planned_items, some_copied, start_of}
+use Rattle.rc_filter.specs.Scope.{decides, is_above_in_scope}
 
 abbrev Key : Type 0
 Key = List (List ℕ)
+
+some_none : {A : Type 0} (x : A) → None ≡ Some x → ⊥
+some_none x e = cc
+
+same_some : {A : Type 0} (x y : A) → Some x ≡ Some y → x ≡ y
+same_some x y e = cc
 
 abbrev Placed : Type 0
 Placed = List (Key × Node)
@@ -107,15 +113,15 @@ find_both (x ∷ es) fs q e =
       | false ↦ λ is. find_both es fs q is
     ] e
 
-nothing_there : (root : Bool) (job : Job) (moment : ℕ) (ours theirs : Key) (source target : Option Node) → source ≡ None → target ≡ None → cond (root && (is_file source || is_file target)) (item_of job moment ours theirs (option_map facts_of source) (option_map facts_of target)) None ≡ None
-nothing_there root job moment ours theirs None None e f = elim root as (λ b. cond {A = Option Item} (b && false) None None ≡ None) [ true ↦ refl | false ↦ refl ]
-nothing_there root job moment ours theirs None (Some node) e f = absurd (some_none node (sym f))
-nothing_there root job moment ours theirs (Some node) target e f = absurd (some_none node (sym e))
+nothing_there : (job : Job) (moment : ℕ) (key ours theirs : Key) (some above : Bool) (source target : Option Node) → source ≡ None → target ≡ None → cond (decides job key (option_map (λ (node : Node). node.kind) source) (option_map (λ (node : Node). node.kind) target) && above) (item_of job moment key ours theirs some source target) None ≡ None
+nothing_there job moment key ours theirs some above None None e f = refl
+nothing_there job moment key ours theirs some above None (Some node) e f = absurd (some_none node (sym f))
+nothing_there job moment key ours theirs some above (Some node) target e f = absurd (some_none node (sym e))
 
 undecided : (job : Job) (source target : Tree) (moment : ℕ) (q : Key) → get (from_entries {R = key_cmp} (entries source ++ entries target)) q ≡ None → decided_at job source target moment q ≡ None
 undecided job source target moment q e =
     let apart = find_both (entries source) (entries target) q (sym (get-from_entries key_cmp-total (entries source ++ entries target) q) ∙ e) in
-    nothing_there (is_in_root q) job moment (spelled source q) (spelled target q) (get source q) (get target q) (get-entries source q ∙ apart.0) (get-entries target q ∙ apart.1)
+    nothing_there job moment q (spelled source q) (spelled target q) (some_copied job source target moment q) (is_above_in_scope job source target q) (get source q) (get target q) (get-entries source q ∙ apart.0) (get-entries target q ∙ apart.1)
 
 known : (found : Option Node) (answer : Option Item) → (found ≡ None → answer ≡ None) → where_found found answer ≡ answer
 known None answer h = sym (h refl)

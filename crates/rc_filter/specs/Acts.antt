@@ -1,44 +1,129 @@
--- What a job does with a file, by its facts on both sides.
-use Rattle.std.specs.Prelude.{ℕ, Bool, true, false, not, if◌then◌else◌, List, Option}
-use Rattle.rc_tree.specs.Attr.{no_attr}
+-- What a job does at a decided key, by what both sides have there and what lies around it.
+use Rattle.std.specs.Prelude.{ℕ, Bool, true, false, not, ◌&&◌, ◌||◌, ◌==◌, if◌then◌else◌, List, Option, None, Some}
+use Rattle.rc_tree.specs.declared.attr.Kind.{Kind}
+use Rattle.rc_tree.specs.declared.attr.Kind.TheVariants.{File, Dir}
+use Rattle.rc_tree.specs.declared.entry.Entry.{Entry}
+use Rattle.rc_tree.specs.declared.props.Props.{Props}
+use Rattle.rc_tree.specs.Tree.{Node}
 use Rattle.rc_class.specs.declared.class.Class.{Class}
 use Rattle.rc_class.specs.declared.class.Class.TheVariants as class
 use Rattle.rc_class.specs.declared.decision.Act.{Act}
-use Rattle.rc_class.specs.declared.decision.Act.TheVariants.{Copy, Extra, Mismatch, Keep}
+use Rattle.rc_class.specs.declared.decision.Act.TheVariants.{Copy, Make, Touch, Extra, Mismatch, Keep}
+use Rattle.rc_class.specs.declared.decision.Reason.{Reason}
 use Rattle.rc_class.specs.declared.decision.Reason.TheVariants as reason
 use Rattle.rc_class.specs.declared.facts.Facts.{Facts}
 use Rattle.rc_class.specs.declared.facts.Grain.{Grain}
 use Rattle.rc_class.specs.declared.rules.Rules.{Rules}
-use Rattle.rc_class.specs.Class.{class_against}
+use Rattle.rc_class.specs.Class.{class_against, is_mismatched, is_same_attr}
+use Rattle.rc_job.specs.declared.flags.DirectoryFlags.{DirectoryFlags}
 use Rattle.rc_job.specs.declared.job.Job.{Job}
+use Rattle.rc_job.specs.declared.choices.Sub.{Sub}
+use Rattle.rc_job.specs.declared.choices.Sub.TheVariants as sub
+use Rattle.rc_filter.specs.Matching.{is_excluded_directory, is_excluded_file, is_named}
 
 -- how exactly a job compares written times
 abbrev pub grain_of : Job → Grain
 grain_of job = record { fft = job.fft; dst = job.dst }
 
+-- Files
+
 -- whether a job leaves the files of a class as they are
-abbrev pub is_excluded : Job → Class → Bool
-is_excluded job class.Lonely = job.xl
-is_excluded job class.Newer = job.xn
-is_excluded job class.Older = job.xo
-is_excluded job class.Changed = job.xc
-is_excluded job class.Same = not job.with_same
-is_excluded job class.Tweaked = not job.with_tweaked
-is_excluded job class.Extra = false
-is_excluded job class.Mismatched = false
+abbrev pub is_excluded_class : Job → Class → Bool
+is_excluded_class job class.Lonely = job.xl
+is_excluded_class job class.Newer = job.xn
+is_excluded_class job class.Older = job.xo
+is_excluded_class job class.Changed = job.xc
+is_excluded_class job class.Same = not job.with_same
+is_excluded_class job class.Tweaked = not job.with_tweaked
+is_excluded_class job class.Extra = false
+is_excluded_class job class.Mismatched = false
 
--- what it does with a source file of a class
-abbrev pub class_act : Job → Class → Act
-class_act job class.Mismatched = Mismatch
-class_act job other = if is_excluded job other then Keep reason.Class else Copy
+-- why a source file of a class is kept: the first reason that holds, and none where it is copied
+abbrev pub kept_for : Job → ℕ → List (List ℕ) → Facts → Class → Option Reason
+kept_for job moment key source class =
+    if not (is_named job key) then Some reason.NotNamed
+    else if is_excluded_file job key then Some reason.Excluded
+    else if is_excluded_class job class then Some reason.Class
+    else None
 
--- what it does with the source file of this path and these facts, where the target has that there
+-- an act, unless there is a reason to keep all as it is
+abbrev pub unless : Option Reason → Act → Act
+unless None act = act
+unless (Some reason) act = Keep reason
+
+abbrev pub class_act : Job → ℕ → List (List ℕ) → Facts → Class → Act
+class_act job moment key source class =
+    if is_mismatched class then Mismatch else unless (kept_for job moment key source class) Copy
+
+-- what a job does with the source file of this key and these facts, where the target has that there
 abbrev pub file_act : Job → ℕ → List (List ℕ) → Facts → Option Facts → Act
-file_act job moment path source target = class_act job (class_against (grain_of job) source target)
+file_act job moment key source target = class_act job moment key source (class_against (grain_of job) source target)
 
--- what it does with a target file that the source lacks
-abbrev pub extra_act : Job → List (List ℕ) → Facts → Act
-extra_act job path target = if job.xx then Keep reason.Class else Extra
+-- Directories
+
+abbrev pub is_all : Sub → Bool
+is_all sub.None = false
+is_all sub.NonEmpty = false
+is_all sub.All = true
+
+abbrev pub are_same_times : Props → Props → Bool
+are_same_times source target = (source.created == target.created) && (source.written == target.written)
+
+-- whether a directory's flags name a property in which two differ
+abbrev pub differ : DirectoryFlags → Props → Props → Bool
+differ flags source target =
+    (flags.attributes && not (is_same_attr source.attr target.attr))
+    || (flags.times && not (are_same_times source target))
+
+-- a source directory where the target has nothing: under `/S` alone it is made where some file at or below it is copied
+abbrev pub lonely_act : Job → List (List ℕ) → Bool → Act
+lonely_act job key some_copied =
+    if is_excluded_directory job key then Keep reason.Excluded
+    else if job.xl then Keep reason.Class
+    else if is_all job.sub || some_copied then Make
+    else Keep reason.Empty
+
+-- and where the target has an entry of this kind and these properties
+abbrev pub standing_act : Job → List (List ℕ) → Props → Kind → Props → Act
+standing_act job key source File target = Mismatch
+standing_act job key source Dir target =
+    if is_excluded_directory job key then Keep reason.Excluded
+    else if differ job.dcopy source target then Touch
+    else Keep reason.Same
+
+-- what a job does with the source directory of this key and these properties, where the target has that there
+abbrev pub directory_act : Job → List (List ℕ) → Props → Option (Kind × Props) → Bool → Act
+directory_act job key source None some_copied = lonely_act job key some_copied
+directory_act job key source (Some there) some_copied = standing_act job key source there.0 there.1
+
+-- what of an entry a directory is decided by
+abbrev pub kind_and_props : Entry → Kind × Props
+kind_and_props entry = (entry.kind, entry.props)
+
+abbrev pub kind_and_props_of : Node → Kind × Props
+kind_and_props_of node = (node.kind, node.props)
+
+-- Extras
+
+abbrev pub extra_file_act : Job → List (List ℕ) → Act
+extra_file_act job key =
+    if job.xx then Keep reason.Class
+    else if is_excluded_file job key then Keep reason.Excluded
+    else if not (is_named job key || job.all_extras) then Keep reason.NotNamed
+    else Extra
+
+abbrev pub extra_directory_act : Job → List (List ℕ) → Act
+extra_directory_act job key =
+    if job.xx then Keep reason.Class
+    else if is_excluded_directory job key then Keep reason.Excluded
+    else Extra
+
+-- what a job does with an entry of this kind that the target alone has
+abbrev pub extra_act : Job → List (List ℕ) → Kind → Act
+extra_act job key File = extra_file_act job key
+extra_act job key Dir = extra_directory_act job key
+
+-- Properties
 
 -- what goes from a source entry to the target's
 abbrev pub rules_of : Job → Rules
@@ -48,10 +133,10 @@ rules_of job = record {
   access = job.copy.security;
   owner = job.copy.owner;
   audit = job.copy.auditing;
-  dir_attr = true;
-  dir_times = false;
-  plus = no_attr;
-  minus = no_attr;
-  secfix = false;
-  timfix = false;
+  dir_attr = job.dcopy.attributes;
+  dir_times = job.dcopy.times;
+  plus = job.plus;
+  minus = job.minus;
+  secfix = job.secfix;
+  timfix = job.timfix;
 }

@@ -1,80 +1,91 @@
--- Which keys a job decides, and what, said of one key and two whole trees.
-use Rattle.std.specs.Prelude.{◌≡◌, ◌≢◌, ℕ, Bool, true, false, ◌&&◌, ◌||◌, if◌then◌else◌, List, [], ◌∷◌, ◌++◌, Option, Some, None, option_map, IsSomeAnd}
-use Rattle.std.specs.List.{filter_map}
+-- What a job decides of one key of two whole trees.
+use Rattle.std.specs.Prelude.{ℕ, Bool, false, ◌&&◌, if◌then◌else◌, List, [], ◌++◌, Option, Some, None, option_map, length, take}
+use Rattle.std.specs.List.{filter_map, list_any}
 use Rattle.std.specs.FinMap.{get, entries, keys, from_entries}
-use Rattle.rc_tree.specs.Path.{key_cmp, last_name}
+use Rattle.std.specs.Ordering.{eq_by_cmp}
 use Rattle.rc_tree.specs.declared.attr.Kind.{Kind}
 use Rattle.rc_tree.specs.declared.attr.Kind.TheVariants.{File, Dir}
+use Rattle.rc_tree.specs.Path.{key_cmp}
+use Rattle.rc_tree.specs.Spelled.{spelled}
 use Rattle.rc_tree.specs.Tree.{Node, Tree}
-use Rattle.rc_class.specs.declared.class.Class.TheVariants.{Lonely, Extra}
+use Rattle.rc_class.specs.declared.class.Class.TheVariants.{Extra}
+use Rattle.rc_class.specs.declared.decision.Act.{Act}
 use Rattle.rc_class.specs.declared.decision.After.TheVariants.{Nothing}
-use Rattle.rc_class.specs.declared.facts.Facts.{Facts}
 use Rattle.rc_class.specs.declared.item.Item.{Item}
 use Rattle.rc_class.specs.Class.{class_against, facts_of}
 use Rattle.rc_class.specs.Start.{Start}
+use Rattle.rc_class.specs.Units.{is_copy}
 use Rattle.rc_job.specs.declared.job.Job.{Job}
-use Rattle.rc_filter.specs.Acts.{grain_of, file_act, extra_act, rules_of}
+use Rattle.rc_filter.specs.Acts.{grain_of, file_act, directory_act, extra_act, rules_of, kind_and_props_of}
+use Rattle.rc_filter.specs.Scope.{is_decided}
 
-abbrev pub is_file_kind : Kind → Bool
-is_file_kind File = true
-is_file_kind Dir = false
+-- Files, by their own facts
 
--- whether a file stands there
-abbrev pub is_file : Option Node → Bool
-is_file None = false
-is_file (Some node) = is_file_kind node.kind
+-- a source file is copied, where the target has that at its key
+abbrev pub copies_kind : Kind → Act → Bool
+copies_kind File act = is_copy act
+copies_kind Dir act = false
 
--- whether it is the key of an entry of the root
-abbrev pub is_in_root : List (List ℕ) → Bool
-is_in_root [] = false
-is_in_root (name ∷ []) = true
-is_in_root (name ∷ next ∷ names) = false
+abbrev pub copies : Job → ℕ → List (List ℕ) → Option Node → Option Node → Bool
+copies job moment key None target = false
+copies job moment key (Some node) target =
+    copies_kind node.kind (file_act job moment key (facts_of node) (option_map facts_of target))
 
--- whether a key is decided: it is in the root, and one of the sides has a file there
-abbrev pub is_decided : Tree → Tree → List (List ℕ) → Bool
-is_decided source target key = is_in_root key && (is_file (get source key) || is_file (get target key))
+-- the file of a key is decided, and copied
+abbrev pub is_copied : Job → Tree → Tree → ℕ → List (List ℕ) → Bool
+is_copied job source target moment key =
+    copies job moment key (get source key) (get target key) && is_decided job source target key
 
--- how what stands there is spelled
-abbrev pub spelling_of : Option Node → List ℕ
-spelling_of None = []
-spelling_of (Some node) = node.spelling
+-- What lies around a key
 
-abbrev pub spelling_at : Tree → List (List ℕ) → List ℕ
-spelling_at tree key = spelling_of (get tree key)
+-- a key is another or lies below it
+abbrev pub is_at_or_below : List (List ℕ) → List (List ℕ) → Bool
+is_at_or_below above key = eq_by_cmp key_cmp (take (length above) key) above
 
--- the path of a key as a tree spells it, behind the names of a directory
-abbrev pub spelled_below : Tree → List (List ℕ) → List (List ℕ) → List (List ℕ)
-spelled_below tree above [] = []
-spelled_below tree above (name ∷ names) = spelling_at tree (above ++ name ∷ []) ∷ spelled_below tree (above ++ name ∷ []) names
+-- some file at or below a key is copied
+abbrev pub some_copied : Job → Tree → Tree → ℕ → List (List ℕ) → Bool
+some_copied job source target moment key =
+    list_any (λ below. is_at_or_below key below && is_copied job source target moment below) (keys source)
 
-abbrev pub spelled : Tree → List (List ℕ) → List (List ℕ)
-spelled tree key = spelled_below tree [] key
+-- Items
+
+-- the one of two acts that is for a kind
+abbrev pub act_for : Kind → Act → Act → Act
+act_for File file directory = file
+act_for Dir file directory = directory
+
+-- what is done with what the source has at a key
+abbrev pub source_act : Job → ℕ → List (List ℕ) → Bool → Node → Option Node → Act
+source_act job moment key some_below node target =
+    act_for node.kind
+    (file_act job moment key (facts_of node) (option_map facts_of target))
+    (directory_act job key node.props (option_map kind_and_props_of target) some_below)
 
 -- the item of a key that the source has
-abbrev pub source_item : Job → ℕ → List (List ℕ) → Facts → Option Facts → Item
-source_item job moment path source target = record {
+abbrev pub source_item : Job → ℕ → List (List ℕ) → List (List ℕ) → Bool → Node → Option Node → Item
+source_item job moment key path some_below node target = record {
   path = path;
-  act = file_act job moment path source target;
-  class = class_against (grain_of job) source target;
+  act = source_act job moment key some_below node target;
+  class = class_against (grain_of job) (facts_of node) (option_map facts_of target);
   after = Nothing;
-  facts = source;
+  facts = facts_of node;
 }
 
 -- the item of a key that the target alone has
-abbrev pub extra_item : Job → List (List ℕ) → Facts → Item
-extra_item job path target = record { path = path; act = extra_act job path target; class = Extra; after = Nothing; facts = target }
+abbrev pub extra_item : Job → List (List ℕ) → List (List ℕ) → Node → Item
+extra_item job key path node = record { path = path; act = extra_act job key node.kind; class = Extra; after = Nothing; facts = facts_of node }
 
--- the item of a key that the two sides spell and have so
-abbrev pub item_of : Job → ℕ → List (List ℕ) → List (List ℕ) → Option Facts → Option Facts → Option Item
-item_of job moment source_path target_path (Some source) target = Some (source_item job moment source_path source target)
-item_of job moment source_path target_path None (Some target) = Some (extra_item job target_path target)
-item_of job moment source_path target_path None None = None
+-- the item of a key that the two sides spell and have so, where some file at or below it is copied or none
+abbrev pub item_of : Job → ℕ → List (List ℕ) → List (List ℕ) → List (List ℕ) → Bool → Option Node → Option Node → Option Item
+item_of job moment key source_path target_path some_below (Some node) target = Some (source_item job moment key source_path some_below node target)
+item_of job moment key source_path target_path some_below None (Some node) = Some (extra_item job key target_path node)
+item_of job moment key source_path target_path some_below None None = None
 
 -- what a job decides of a key of two trees, at a moment
 abbrev pub decided_at : Job → Tree → Tree → ℕ → List (List ℕ) → Option Item
 decided_at job source target moment key =
-    if is_decided source target key
-    then item_of job moment (spelled source key) (spelled target key) (option_map facts_of (get source key)) (option_map facts_of (get target key))
+    if is_decided job source target key
+    then item_of job moment key (spelled source key) (spelled target key) (some_copied job source target moment key) (get source key) (get target key)
     else None
 
 -- the keys of either tree, in their order
@@ -95,17 +106,3 @@ start_of job source target = record {
   with_bytes = job.copy.data_bytes;
   decided = decided_at job source target;
 }
-
--- Laws
-
--- what the two sides have where an item says that a file is copied
-pub record IsCopyable (item : Item) (source target : Option Node) : Type 0 where
-  pub node : Node
-  pub stands : source ≡ Some node
-  pub is_file : node.kind ≡ File
-  pub facts : item.facts ≡ facts_of node
-  pub spelled : last_name item.path ≡ node.spelling
-  -- a lonely file is absent on the target
-  pub lonely : item.class ≡ Lonely → target ≡ None
-  -- any other is a file there
-  pub beside : item.class ≢ Lonely → IsSomeAnd target (λ there. there.kind ≡ File)

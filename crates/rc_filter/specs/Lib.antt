@@ -1,2 +1,4 @@
 pub mod Acts
 pub mod Decided
+pub mod Matching
+pub mod Scope

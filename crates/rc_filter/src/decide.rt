@@ -1,11 +1,17 @@
-ghost use Rattle.std.specs.Prelude.{◌≡◌};
-ghost use Rattle.rc_tree.specs.declared.attr.Kind.TheVariants.{File};
-ghost use Rattle.rc_class.specs.Class.{class_against};
-ghost use Rattle.rc_filter.specs.Acts.{class_act, extra_act, file_act, grain_of, is_excluded, rules_of};
+//! The deciding calls. None of them takes memory.
 
-use rc_class::{Act, Class, Facts, Grain, Reason, Rules, class_of};
-use rc_job::Job;
-use rc_tree::{Attr, Moment, Path};
+ghost use Rattle.std.specs.Prelude.{◌≡◌, ◌⊎◌, true, option_map, IsSomeAnd};
+ghost use Rattle.std.specs.Option.{option_copied};
+ghost use Rattle.rc_tree.specs.declared.attr.Kind.TheVariants.{File};
+ghost use Rattle.rc_tree.specs.Path.{key_of};
+ghost use Rattle.rc_class.specs.Class.{class_against};
+ghost use Rattle.rc_filter.specs.Acts.{are_same_times, class_act, differ, directory_act, extra_act, extra_directory_act, extra_file_act, file_act, grain_of, is_all, is_excluded_class, kept_for, lonely_act, rules_of, kind_and_props, standing_act};
+ghost use Rattle.rc_filter.specs.Scope.{reaches};
+
+use crate::matching::{is_excluded_directory, is_excluded_file, is_named};
+use rc_class::{Act, Class, Facts, Grain, Reason, Rules, class_of, same_attr};
+use rc_job::{DirectoryFlags, Job, Sub};
+use rc_tree::{Entry, Kind, Moment, Path, Props};
 
 /// How exactly a job compares written times.
 pub fn grain(job: &Job) -> Grain
@@ -17,36 +23,54 @@ pub fn grain(job: &Job) -> Grain
     }
 }
 
-/// What a job does with a source file, where the target has this at its key, at a moment.
+/// What a job does with the source file of a decided path, where the target has that there, at a moment.
 pub fn decide_file(
     job: &Job,
-    _moment: Moment,
-    _path: &Path,
+    moment: Moment,
+    path: &Path,
     source: Facts,
     target: Option<Facts>,
 ) -> Act
     requires { source.kind ≡ File }
-    ensures { result ≡ file_act job.now _moment _path.now source target }
+    ensures { result ≡ file_act job.now moment (key_of path.now) source target }
 {
-    match class_of(Some(source), target, grain(job)) {
-        Some(class) => class_act(job, class),
-        None => Act::Copy,
+    let class = class_against(job, &source, target);
+    class_act(job, moment, path, &source, class)
+}
+
+/// What a job does with the source directory of a decided path, where the target has that there. `some_copied` says
+/// whether some file below it is copied.
+pub fn decide_dir(
+    job: &Job,
+    path: &Path,
+    source: &Props,
+    target: Option<&Entry>,
+    some_copied: bool,
+) -> Act
+    requires { (reaches job.now (key_of path.now) ≡ true)
+        ⊎ IsSomeAnd target (λ there. there.now.kind ≡ File) }
+    ensures { result ≡ directory_act job.now (key_of path.now) source.now
+        (option_map kind_and_props (option_copied target.entry)) some_copied }
+{
+    match target {
+        None => lonely_act(job, path, some_copied),
+        Some(there) => standing_act(job, path, source, there),
     }
 }
 
-/// What a job does with a target file that the source lacks.
-pub fn decide_extra(job: &Job, _path: &Path, target: Facts, _all_purged: bool) -> Act
-    requires { target.kind ≡ File }
-    ensures { result ≡ extra_act job.now _path.now target }
+/// What a job does with what the target alone has at a decided path. `all_purged` says whether all below a directory is
+/// removed; nothing is removed so far.
+pub fn decide_extra(job: &Job, path: &Path, target: Facts, _all_purged: bool) -> Act
+    requires { (target.kind ≡ File) ⊎ (reaches job.now (key_of path.now) ≡ true) }
+    ensures { result ≡ extra_act job.now (key_of path.now) target.kind }
 {
-    if job.xx {
-        Act::Keep(Reason::Class)
-    } else {
-        Act::Extra
+    match target.kind {
+        Kind::File => extra_file_act(job, path),
+        Kind::Dir => extra_directory_act(job, path),
     }
 }
 
-/// What goes from a source entry to the target's. Settings that a job does not have yet have their defaults.
+/// What of a source entry goes to the target's, besides a file's bytes.
 pub fn rules(job: &Job) -> Rules
     ensures { result ≡ rules_of job.now }
 {
@@ -56,30 +80,60 @@ pub fn rules(job: &Job) -> Rules
         access: job.copy.security,
         owner: job.copy.owner,
         audit: job.copy.auditing,
-        dir_attr: true,
-        dir_times: false,
-        plus: Attr::NONE,
-        minus: Attr::NONE,
-        secfix: false,
-        timfix: false,
+        dir_attr: job.dcopy.attributes,
+        dir_times: job.dcopy.times,
+        plus: job.plus,
+        minus: job.minus,
+        secfix: job.secfix,
+        timfix: job.timfix,
     }
 }
 
-fn class_act(job: &Job, class: Class) -> Act
-    ensures { result ≡ class_act job.now class }
+// Files
+
+// The class of a source file.
+fn class_against(job: &Job, source: &Facts, target: Option<Facts>) -> Class
+    ensures { result ≡ class_against (grain_of job.now) source.now target }
+{
+    class_of(Some(*source), target, grain(job)).unwrap_or(Class::Lonely)
+}
+
+fn class_act(job: &Job, moment: Moment, path: &Path, source: &Facts, class: Class) -> Act
+    ensures { result ≡ class_act job.now moment (key_of path.now) source.now class }
 {
     if class == Class::Mismatched {
-        Act::Mismatch
-    } else if is_excluded(job, class) {
-        Act::Keep(Reason::Class)
+        return Act::Mismatch;
+    }
+    match kept_for(job, moment, path, source, class) {
+        None => Act::Copy,
+        Some(reason) => Act::Keep(reason),
+    }
+}
+
+// Why a source file of a class is kept: the first reason that holds.
+fn kept_for(
+    job: &Job,
+    _moment: Moment,
+    path: &Path,
+    _source: &Facts,
+    class: Class,
+) -> Option<Reason>
+    ensures { result ≡ kept_for job.now _moment (key_of path.now) _source.now class }
+{
+    if !is_named(job, path) {
+        Some(Reason::NotNamed)
+    } else if is_excluded_file(job, path) {
+        Some(Reason::Excluded)
+    } else if is_excluded_class(job, class) {
+        Some(Reason::Class)
     } else {
-        Act::Copy
+        None
     }
 }
 
 // Whether a job leaves files of a class as they are.
-fn is_excluded(job: &Job, class: Class) -> bool
-    ensures { result ≡ is_excluded job.now class }
+fn is_excluded_class(job: &Job, class: Class) -> bool
+    ensures { result ≡ is_excluded_class job.now class }
 {
     match class {
         Class::Lonely => job.xl,
@@ -89,5 +143,88 @@ fn is_excluded(job: &Job, class: Class) -> bool
         Class::Same => !job.with_same,
         Class::Tweaked => !job.with_tweaked,
         Class::Extra | Class::Mismatched => false,
+    }
+}
+
+// Directories
+
+// Of a source directory where the target has nothing.
+fn lonely_act(job: &Job, path: &Path, some_copied: bool) -> Act
+    ensures { result ≡ lonely_act job.now (key_of path.now) some_copied }
+{
+    if is_excluded_directory(job, path) {
+        Act::Keep(Reason::Excluded)
+    } else if job.xl {
+        Act::Keep(Reason::Class)
+    } else if is_all(job.sub) || some_copied {
+        Act::Make
+    } else {
+        Act::Keep(Reason::Empty)
+    }
+}
+
+fn is_all(sub: Sub) -> bool
+    ensures { result ≡ is_all sub }
+{
+    sub == Sub::All
+}
+
+// And where it has this entry.
+fn standing_act(job: &Job, path: &Path, source: &Props, target: &Entry) -> Act
+    ensures { result ≡ standing_act job.now (key_of path.now) source.now
+        target.now.kind target.now.props }
+{
+    if target.kind == Kind::File {
+        Act::Mismatch
+    } else if is_excluded_directory(job, path) {
+        Act::Keep(Reason::Excluded)
+    } else if differ(job.dcopy, source, &target.props) {
+        Act::Touch
+    } else {
+        Act::Keep(Reason::Same)
+    }
+}
+
+// Whether the flags name a property in which two differ.
+fn differ(flags: DirectoryFlags, source: &Props, target: &Props) -> bool
+    ensures { result ≡ differ flags source.now target.now }
+{
+    let attributes = flags.attributes && !same_attr(source.attr, target.attr);
+    let times = flags.times && !are_same_times(source, target);
+    attributes || times
+}
+
+// Whether both times are exactly the same.
+fn are_same_times(source: &Props, target: &Props) -> bool
+    ensures { result ≡ are_same_times source.now target.now }
+{
+    source.created == target.created && source.written == target.written
+}
+
+// Extras
+
+fn extra_file_act(job: &Job, path: &Path) -> Act
+    ensures { result ≡ extra_file_act job.now (key_of path.now) }
+{
+    if job.xx {
+        Act::Keep(Reason::Class)
+    } else if is_excluded_file(job, path) {
+        Act::Keep(Reason::Excluded)
+    } else if !(is_named(job, path) || job.all_extras) {
+        Act::Keep(Reason::NotNamed)
+    } else {
+        Act::Extra
+    }
+}
+
+fn extra_directory_act(job: &Job, path: &Path) -> Act
+    ensures { result ≡ extra_directory_act job.now (key_of path.now) }
+{
+    if job.xx {
+        Act::Keep(Reason::Class)
+    } else if is_excluded_directory(job, path) {
+        Act::Keep(Reason::Excluded)
+    } else {
+        Act::Extra
     }
 }

@@ -1,38 +1,46 @@
 //! Laws of what is decided.
 
-ghost use Rattle.std.specs.Prelude.{◌≡◌, ℕ, List, Some, true, false};
+ghost use Rattle.std.specs.Prelude.{◌≡◌, ◌↔◌, ℕ, Bool, true, ◌&&◌, List, [], ◌∷◌, ◌++◌, None, Some, if◌then◌else◌};
 ghost use Rattle.std.specs.FinMap.{get};
-ghost use Rattle.rc_tree.specs.Path.{key_of};
-ghost use Rattle.rc_tree.specs.Tree.{Tree, IsTree};
-ghost use Rattle.rc_class.specs.declared.decision.Act.{Act};
+ghost use Rattle.rc_tree.specs.Spelled.{spelled};
+ghost use Rattle.rc_tree.specs.Tree.{Tree, IsTree, kind_at};
 ghost use Rattle.rc_class.specs.declared.item.Item.{Item};
 ghost use Rattle.rc_class.specs.declared.plan.Plan.{Plan};
-ghost use Rattle.rc_class.specs.Goal.{is_left, source_goal};
+ghost use Rattle.rc_class.specs.Sides.{IsDecidedIn};
 ghost use Rattle.rc_class.specs.Start.{IsPlanOf};
-ghost use Rattle.rc_class.specs.Units.{is_copy};
 ghost use Rattle.rc_job.specs.declared.job.Job.{Job};
-ghost use Rattle.rc_filter.specs.Decided.{decided_at, planned_items, start_of, IsCopyable};
+ghost use Rattle.rc_filter.specs.Decided.{decided_at, is_copied, item_of, planned_items, some_copied, start_of};
+ghost use Rattle.rc_filter.specs.Scope.{decides, enters, is_in_scope};
 
-/// Where an item says that a file is copied, the source has a file of the item's facts under the last name of its path,
-/// and the target has nothing where the item's class is lonely, and else a file.
-pub fn copies_are_of_files()
-    ensures { (job : Job) (source target : Tree) (moment : ℕ) (key : List (List ℕ)) (item : Item) →
-        decided_at job source target moment key ≡ Some item → item.act ≡ Act.Copy →
-        IsCopyable item (get source key) (get target key) }
-{}
-
-/// The key of an item's path is the key at which it was decided.
-pub fn items_stand_at_their_keys()
+/// What a job decides of a key of two trees says of both sides all that `IsDecidedIn` has: the layers above need no more
+/// of a decision.
+pub fn decided_items()
     ensures { (job : Job) (source target : Tree) (moment : ℕ) (key : List (List ℕ)) (item : Item) →
         IsTree source → IsTree target → decided_at job source target moment key ≡ Some item →
-        key_of item.path ≡ key }
+        IsDecidedIn (start_of job source target) moment key item }
 {}
 
-/// What is decided of a key is that a file is copied, or that both sides stay as they are.
-pub fn files_are_copied_or_left()
-    ensures { (job : Job) (source target : Tree) (moment : ℕ) (key : List (List ℕ)) (item : Item) →
-        decided_at job source target moment key ≡ Some item → is_copy item.act ≡ false →
-        is_left item.act ≡ true }
+/// How the decision of a key follows from the answers of the calls there and from what lies around it, whatever walk
+/// brings them: from the scope of the directory above, and from whether some file at or below the key is copied.
+pub fn decisions_by_neighbours()
+    ensures root { (job : Job) (source target : Tree) (moment : ℕ) →
+        (is_in_scope job source target [] ≡ true)
+        × (decided_at job source target moment [] ≡ None) }
+    ensures scope { (job : Job) (source target : Tree) (above : List (List ℕ)) (name : List ℕ) →
+        let key = above ++ name ∷ [] in is_in_scope job source target key
+        ≡ (is_in_scope job source target above
+        && enters job key (kind_at source key) (kind_at target key)) }
+    ensures decided { (job : Job) (source target : Tree) (moment : ℕ)
+        (above : List (List ℕ)) (name : List ℕ) →
+        let key = above ++ name ∷ [] in decided_at job source target moment key
+        ≡ (if decides job key (kind_at source key) (kind_at target key)
+        && is_in_scope job source target above
+        then item_of job moment key (spelled source key) (spelled target key)
+        (some_copied job source target moment key) (get source key) (get target key)
+        else None) }
+    ensures copied { (job : Job) (source target : Tree) (moment : ℕ) (key : List (List ℕ)) →
+        (some_copied job source target moment key ≡ true)
+        ↔ ((names : List (List ℕ)) × (is_copied job source target moment (key ++ names) ≡ true)) }
 {}
 
 /// A plan of a job on two trees has just the items that are decided of the keys of both.
@@ -40,10 +48,4 @@ pub fn plans_have_the_planned_items()
     ensures { (job : Job) (source target : Tree) (plan : Plan) →
         IsPlanOf (start_of job source target) plan →
         plan.items ≡ planned_items job source target plan.moment }
-{}
-
-/// So far a run leaves the source as it is, at every key.
-pub fn sources_stay()
-    ensures { (job : Job) (source target : Tree) (moment : ℕ) (key : List (List ℕ)) →
-        source_goal (decided_at job source target moment key) (get source key) ≡ get source key }
 {}

@@ -1,14 +1,17 @@
-//! What a job decides of a key: its act, by the facts that the two sides have there.
+//! What a job decides of a key: whether it is decided, and its act, by what the two sides have there and by what lies
+//! around it.
 //!
-//! The definitions of this crate say which keys of two whole trees are decided and which item each has; the calls
-//! compute the parts that code needs, and take no memory. So far the files of the roots are decided.
+//! The definitions of this crate speak of one key and two whole trees (`specs/Scope.antt`, `specs/Acts.antt`,
+//! `specs/Decided.antt`). The calls compute one case of them each, with what lies around the key handed in, and take no
+//! memory. The laws say how a key's decision follows from the calls' answers along any walk, and what every decided item
+//! says of both sides.
 #![tactic(auto)]
 
 mod decide;
 mod laws;
+mod matching;
+mod scope;
 
-pub use decide::{decide_extra, decide_file, grain, rules};
-pub use laws::{
-    copies_are_of_files, files_are_copied_or_left, items_stand_at_their_keys,
-    plans_have_the_planned_items, sources_stay,
-};
+pub use decide::{decide_dir, decide_extra, decide_file, grain, rules};
+pub use laws::{decided_items, decisions_by_neighbours, plans_have_the_planned_items};
+pub use scope::{in_scope, is_decided, reaches};

@@ -1,16 +1,20 @@
 //! A site in memory, and a sink, of which one call fails.
 
-ghost use Rattle.std.specs.Prelude.{◌≡◌, Bool, true, false, IfNone, IfSome, []};
+ghost use Rattle.std.specs.Prelude.{◌≡◌, Bool, true, false, Err, IfErr, IfNone, IfSome, OnOk, []};
+ghost use Rattle.rc_tree.specs.Path.{key_of};
 ghost use Rattle.rc_volume.specs.declared.site.Part.{Part};
-ghost use Rattle.rc_volume.specs.Faults.{on, part_for, quiet, Counts};
+ghost use Rattle.rc_volume.specs.Faults.{on, part_cause, part_for, quiet, side_cause, Counts};
+ghost use Rattle.rc_volume.specs.Log.{Logs, LogsOn, changed, noted};
+ghost use Rattle.rc_mem.specs.Logged.{call_of, notes_call_of};
 ghost use Rattle.rc_mem.specs.MemSite.{seen_by};
 ghost use Rattle.rc_mem.specs.Reading.{shared_at};
 ghost use Rattle.rc_fixture.specs.Failing.{failures_in, seen_failing};
 
-use rc_mem::{MemReader, MemSite};
+use rc_mem::{EntryCall, MemReader, MemSite, NotesCall};
 use rc_tree::{Entry, Name, Path, Props, Scan};
 use rc_volume::{BindErr, Part, ReadErr, Reader, Side, Sink, SinkErr, Site, SiteErr, Want};
 use std::alloc::Global;
+use std::snapshot::Snapshot;
 
 /// A call that can fail.
 #[derive(Clone, Copy, Debug, PartialEq, Eq)]
@@ -26,12 +30,16 @@ pub enum Call {
     SetProps,
     Remove,
     Sync,
+    RecordRead,
+    RecordWrite,
+    RecordCut,
+    RecordSync,
     Reader,
     Fill,
 }
 
-/// A site in memory on which one call fails, changing nothing: that of its kind behind `before` others. All else passes
-/// on to the site behind it, and what that one tells it tells too.
+/// A site in memory on which one call fails, changing nothing of what is told: that of its kind behind `before` others. All
+/// else passes on to the site behind it, and what that one tells it tells too. A changing call that fails is in the log.
 #[derive(Debug, Drop)]
 pub struct FailingSite {
     pub behind: MemSite,
@@ -57,13 +65,10 @@ impl FailingSite {
         }
     }
 
-    // Whether this call fails, which its part's count of faults counts.
-    fn fails(&mut self, call: Call, part: Part) -> bool
+    // Whether this call is the one that fails.
+    fn is_due(&mut self, call: Call) -> bool
         ensures behind { self.new.behind ≡ self.old.behind }
-        ensures failed { result ≡ true →
-            Counts (on part 1) (failures_in self.old) (failures_in self.new) }
-        ensures passed { result ≡ false →
-            Counts quiet (failures_in self.old) (failures_in self.new) }
+        ensures counts { Counts quiet (failures_in self.old) (failures_in self.new) }
     {
         if self.call != call {
             return false;
@@ -72,12 +77,90 @@ impl FailingSite {
             self.before -= 1;
             return false;
         }
+        true
+    }
+
+    // Counts a failure of a part.
+    fn count(&mut self, part: Part)
+        ensures behind { self.new.behind ≡ self.old.behind }
+        ensures counts { Counts (on part 1) (failures_in self.old) (failures_in self.new) }
+    {
         match part {
             Part::Source => self.source_failures = self.source_failures.saturating_add(1),
             Part::Target => self.target_failures = self.target_failures.saturating_add(1),
             Part::Record => self.record_failures = self.record_failures.saturating_add(1),
         }
-        true
+    }
+
+    // Whether this call fails, which its part's count of faults counts.
+    fn fails(&mut self, call: Call, part: Part) -> bool
+        ensures behind { self.new.behind ≡ self.old.behind }
+        ensures failed { result ≡ true →
+            Counts (on part 1) (failures_in self.old) (failures_in self.new) }
+        ensures passed { result ≡ false →
+            Counts quiet (failures_in self.old) (failures_in self.new) }
+    {
+        let fails = self.is_due(call);
+        if fails {
+            self.count(part);
+        }
+        fails
+    }
+
+    // The error of this call on an entry where it fails: then it is in the log.
+    fn change(
+        &mut self,
+        call: Call,
+        side: Side,
+        path: &Path,
+        logged: EntryCall,
+    ) -> Result<(), SiteErr>
+        ensures passed { OnOk result (self.new.behind ≡ self.old.behind) }
+        ensures logged { IfErr result (λ e. Logs {T = Unit {0}} (Err e)
+            (changed side (key_of path.now) (call_of path.now logged))
+            (seen_failing self.old).log (seen_failing self.new).log) }
+        ensures only { LogsOn (part_for side)
+            (seen_failing self.old).log (seen_failing self.new).log }
+        ensures told { (seen_failing self.new).told ≡ (seen_failing self.old).told }
+        ensures opened { (seen_failing self.new).opened ≡ (seen_failing self.old).opened }
+        ensures bound { (seen_failing self.new).bound ≡ (seen_failing self.old).bound }
+        ensures cause { Counts (side_cause side result)
+            (failures_in self.old) (failures_in self.new) }
+    {
+        if !self.is_due(call) {
+            return Ok(());
+        }
+        match self.behind.log_failed(side, path, logged) {
+            Ok(()) => {
+                self.count(part_for(side));
+                Err(SiteErr::Failed)
+            }
+            Err(_) => Err(SiteErr::NoMemory),
+        }
+    }
+
+    // The same of a call on the record.
+    fn change_notes(&mut self, call: Call, logged: NotesCall) -> Result<(), SiteErr>
+        ensures passed { OnOk result (self.new.behind ≡ self.old.behind) }
+        ensures logged { IfErr result (λ e. Logs {T = Unit {0}} (Err e) (noted (notes_call_of logged))
+            (seen_failing self.old).log (seen_failing self.new).log) }
+        ensures only { LogsOn Part.Record (seen_failing self.old).log (seen_failing self.new).log }
+        ensures told { (seen_failing self.new).told ≡ (seen_failing self.old).told }
+        ensures opened { (seen_failing self.new).opened ≡ (seen_failing self.old).opened }
+        ensures bound { (seen_failing self.new).bound ≡ (seen_failing self.old).bound }
+        ensures cause { Counts (part_cause Part.Record result)
+            (failures_in self.old) (failures_in self.new) }
+    {
+        if !self.is_due(call) {
+            return Ok(());
+        }
+        match self.behind.log_failed_notes(logged) {
+            Ok(()) => {
+                self.count(Part::Record);
+                Err(SiteErr::Failed)
+            }
+            Err(_) => Err(SiteErr::NoMemory),
+        }
     }
 }
 
@@ -156,17 +239,19 @@ impl Site for FailingSite {
     }
 
     fn make_dir(&mut self, alloc: Global, side: Side, path: &Path) -> Result<(), SiteErr> {
-        if self.fails(Call::MakeDir, part_for(side)) {
-            return Err(SiteErr::Failed);
+        match self.change(Call::MakeDir, side, path, EntryCall::MakeDir) {
+            Ok(()) => self.behind.make_dir(alloc, side, path),
+            Err(SiteErr::Failed) => Err(SiteErr::Failed),
+            Err(SiteErr::NoMemory) => Err(SiteErr::NoMemory),
         }
-        self.behind.make_dir(alloc, side, path)
     }
 
     fn make_file(&mut self, alloc: Global, side: Side, path: &Path) -> Result<(), SiteErr> {
-        if self.fails(Call::MakeFile, part_for(side)) {
-            return Err(SiteErr::Failed);
+        match self.change(Call::MakeFile, side, path, EntryCall::MakeFile) {
+            Ok(()) => self.behind.make_file(alloc, side, path),
+            Err(SiteErr::Failed) => Err(SiteErr::Failed),
+            Err(SiteErr::NoMemory) => Err(SiteErr::NoMemory),
         }
-        self.behind.make_file(alloc, side, path)
     }
 
     fn put(
@@ -177,17 +262,20 @@ impl Site for FailingSite {
         off: u64,
         bytes: &[u8],
     ) -> Result<(), SiteErr> {
-        if self.fails(Call::Put, part_for(side)) {
-            return Err(SiteErr::Failed);
+        let len = bytes.len() as u64;
+        match self.change(Call::Put, side, path, EntryCall::Put { off, len }) {
+            Ok(()) => self.behind.put(alloc, side, path, off, bytes),
+            Err(SiteErr::Failed) => Err(SiteErr::Failed),
+            Err(SiteErr::NoMemory) => Err(SiteErr::NoMemory),
         }
-        self.behind.put(alloc, side, path, off, bytes)
     }
 
     fn set_len(&mut self, alloc: Global, side: Side, path: &Path, len: u64) -> Result<(), SiteErr> {
-        if self.fails(Call::SetLen, part_for(side)) {
-            return Err(SiteErr::Failed);
+        match self.change(Call::SetLen, side, path, EntryCall::SetLen { len }) {
+            Ok(()) => self.behind.set_len(alloc, side, path, len),
+            Err(SiteErr::Failed) => Err(SiteErr::Failed),
+            Err(SiteErr::NoMemory) => Err(SiteErr::NoMemory),
         }
-        self.behind.set_len(alloc, side, path, len)
     }
 
     fn set_props(
@@ -197,21 +285,30 @@ impl Site for FailingSite {
         path: &Path,
         props: &Props,
     ) -> Result<(), SiteErr> {
-        if self.fails(Call::SetProps, part_for(side)) {
-            return Err(SiteErr::Failed);
+        let given = Snapshot::of(props);
+        match self.change(
+            Call::SetProps,
+            side,
+            path,
+            EntryCall::SetProps { props: given },
+        ) {
+            Ok(()) => self.behind.set_props(alloc, side, path, props),
+            Err(SiteErr::Failed) => Err(SiteErr::Failed),
+            Err(SiteErr::NoMemory) => Err(SiteErr::NoMemory),
         }
-        self.behind.set_props(alloc, side, path, props)
     }
 
     fn remove(&mut self, alloc: Global, side: Side, path: &Path) -> Result<(), SiteErr> {
-        if self.fails(Call::Remove, part_for(side)) {
-            return Err(SiteErr::Failed);
+        match self.change(Call::Remove, side, path, EntryCall::Remove) {
+            Ok(()) => self.behind.remove(alloc, side, path),
+            Err(SiteErr::Failed) => Err(SiteErr::Failed),
+            Err(SiteErr::NoMemory) => Err(SiteErr::NoMemory),
         }
-        self.behind.remove(alloc, side, path)
     }
 
     fn sync(&mut self, alloc: Global, side: Side) -> Result<(), SiteErr> {
         if self.fails(Call::Sync, part_for(side)) {
+            self.behind.tree(side).keeps_shape();
             return Err(SiteErr::Failed);
         }
         self.behind.sync(alloc, side)
@@ -222,6 +319,37 @@ impl Site for FailingSite {
             return Err(SiteErr::Failed);
         }
         self.behind.record_len(alloc)
+    }
+
+    fn record_read(&mut self, alloc: Global, off: u64, len: usize) -> Result<Vec<u8>, SiteErr> {
+        if self.fails(Call::RecordRead, Part::Record) {
+            return Err(SiteErr::Failed);
+        }
+        self.behind.record_read(alloc, off, len)
+    }
+
+    fn record_write(&mut self, alloc: Global, off: u64, bytes: &[u8]) -> Result<(), SiteErr> {
+        let len = bytes.len() as u64;
+        match self.change_notes(Call::RecordWrite, NotesCall::Write { off, len }) {
+            Ok(()) => self.behind.record_write(alloc, off, bytes),
+            Err(SiteErr::Failed) => Err(SiteErr::Failed),
+            Err(SiteErr::NoMemory) => Err(SiteErr::NoMemory),
+        }
+    }
+
+    fn record_cut(&mut self, alloc: Global, len: u64) -> Result<(), SiteErr> {
+        match self.change_notes(Call::RecordCut, NotesCall::Cut { len }) {
+            Ok(()) => self.behind.record_cut(alloc, len),
+            Err(SiteErr::Failed) => Err(SiteErr::Failed),
+            Err(SiteErr::NoMemory) => Err(SiteErr::NoMemory),
+        }
+    }
+
+    fn record_sync(&mut self, alloc: Global) -> Result<(), SiteErr> {
+        if self.fails(Call::RecordSync, Part::Record) {
+            return Err(SiteErr::Failed);
+        }
+        self.behind.record_sync(alloc)
     }
 
     fn reader(&mut self, alloc: Global, wants: Vec<Want>) -> Result<FailingReader, SiteErr> {

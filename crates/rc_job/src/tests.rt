@@ -1,21 +1,22 @@
+//! Copies of a job.
+
 use super::*;
+use rc_tree::Text;
+use rc_wild::{PathPattern, Pattern};
+use std::alloc::Global;
 use std::test::Fail;
 
-#[test]
-fn a_job_of_no_settings_has_the_defaults(rt: HostRuntime) -> Result<(), Fail> {
-    let job = Job::new();
-    let letters = [
-        job.copy.data_bytes,
-        job.copy.attributes,
-        job.copy.times,
-        job.copy.security,
-        job.copy.owner,
-        job.copy.auditing,
-    ];
-    assert_eq!(rt; letters, [true, true, true, false, false, false]);
-    let switches = [
-        job.fft,
-        job.dst,
+// The switches of a job that are on or off.
+fn switches(job: &Job) -> [bool; 33] {
+    [
+        job.no_source,
+        job.no_target,
+        job.purge,
+        job.create,
+        job.secfix,
+        job.timfix,
+        job.only_a,
+        job.only_m,
         job.xc,
         job.xn,
         job.xo,
@@ -23,27 +24,51 @@ fn a_job_of_no_settings_has_the_defaults(rt: HostRuntime) -> Result<(), Fail> {
         job.xx,
         job.with_same,
         job.with_tweaked,
-    ];
-    assert_eq!(rt; switches, [false; 9]);
-    Ok(())
+        job.fft,
+        job.dst,
+        job.all_extras,
+        job.strides,
+        job.list_only,
+        job.verbose,
+        job.nfl,
+        job.ndl,
+        job.nc,
+        job.ns,
+        job.njh,
+        job.njs,
+        job.plain_bytes,
+        job.full_path,
+        job.with_time,
+        job.source.is_some(),
+        job.target.is_some(),
+        job.lev.is_some(),
+    ]
 }
 
 #[test]
 fn a_copy_is_equal(rt: HostRuntime) -> Result<(), Fail> {
-    let mut job = Job::new();
+    let alloc = rt.alloc();
+    let mut job = Job::new(alloc)?;
+    job.source = Some(Text::of(alloc, "SRC")?);
+    job.files = Patterns::new(vec![in alloc; Pattern::read(alloc, "*.txt")?]?);
+    job.xd = Excludes::new(vec![in alloc;
+        Exclude::Path(PathPattern::read(alloc, "a\\b")?),
+        Exclude::Name(Pattern::read(alloc, "c")?),
+    ]?);
     job.dst = true;
-    job.xn = true;
-    job.with_tweaked = true;
     job.copy.owner = true;
-    let copy = job.copy(rt.alloc())?;
+    job.maxage = Some(7);
+    let copy = job.copy(alloc)?;
     assert_eq!(rt; copy.copy, job.copy);
-    assert_eq!(rt;
-        [copy.fft, copy.dst, copy.xc, copy.xn, copy.xo],
-        [false, true, false, true, false]
-    );
-    assert_eq!(rt;
-        [copy.xl, copy.xx, copy.with_same, copy.with_tweaked],
-        [false, false, false, true]
-    );
+    assert_eq!(rt; switches(&copy), switches(&job));
+    assert_eq!(rt; copy.maxage, Some(7));
+    assert!(rt; copy.source.ok_or("no source")?.text() == "SRC");
+    let files = copy.files.into_vec();
+    assert_eq!(rt; files.len(), 1);
+    assert!(rt; files[0].text() == "*.txt");
+    let excludes = copy.xd.into_vec();
+    assert_eq!(rt; excludes.len(), 2);
+    assert!(rt; matches!(&excludes[0], Exclude::Path(path) if path.text() == "a\\b"));
+    assert!(rt; matches!(&excludes[1], Exclude::Name(name) if name.text() == "c"));
     Ok(())
 }

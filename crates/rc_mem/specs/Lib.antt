@@ -1,5 +1,6 @@
 pub mod Held
 pub mod Listing
+pub mod Logged
 pub mod MemJobs
 pub mod MemSite
 pub mod Nodes

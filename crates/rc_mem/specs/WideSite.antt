@@ -21,6 +21,7 @@ counts_by site Record = site.record_faults
 abbrev pub seen_wide : WideSite → Seen
 seen_wide site = record {
   told = record { source = empty; target = empty; notes = [] };
+  log = [];
   opened = [];
   bound = [];
   faults = counts_by site;

@@ -12,7 +12,7 @@ use crate::{
     FixedClock, MemInput, MemJobs, MemReader, MemSink, MemSite, SharedBytes, Tree, TreeNode,
     WideSite,
 };
-use rc_tree::{Attr, Entry, Kind, Moment, Name, NoMemory, Path, Props, Scan, Security, Text};
+use rc_tree::{Attr, Kind, Moment, Name, NoMemory, Path, Props, Scan, Security, Text};
 use rc_volume::{Clock, Input, JobStore, Ranges, Reader, Side, Sink, Site, Want};
 use std::alloc::Global;
 use std::test::Fail;
@@ -296,43 +296,6 @@ fn changes_one_file(rt: HostRuntime) -> Result<(), Fail> {
     assert_eq!(rt; path_text(alloc, &node.path)?.as_str(), "B New one ");
     site.sync(alloc, Side::Source)?;
     Ok(())
-}
-
-#[test]
-fn looks_at_one_entry(rt: HostRuntime) -> Result<(), Fail> {
-    let alloc = rt.alloc();
-    let mut site = sample(alloc)?;
-    // Any spelling of the key finds the entry as it is spelled.
-    for (path, name, kind, size) in [
-        ("A", "a", Kind::File, 5),
-        ("b", "B", Kind::Dir, 0),
-        ("b\\X", "x", Kind::Dir, 0),
-    ] {
-        let path = Path::read(alloc, path)?;
-        let Some(entry) = look(alloc, &mut site, Side::Source, &path)? else {
-            return Err("nothing stands there")?;
-        };
-        assert_eq!(rt; entry.name.text(), name);
-        assert_eq!(rt; (entry.kind, entry.size), (kind, size));
-    }
-    let nowhere = Path::read(alloc, "b\\z")?;
-    assert!(rt; look(alloc, &mut site, Side::Source, &nowhere)?.is_none());
-    let file = Path::read(alloc, "a")?;
-    assert!(rt; look(alloc, &mut site, Side::Target, &file)?.is_none());
-    Ok(())
-}
-
-// What a site has at a path that is not the root.
-fn look<S: Site>(
-    alloc: Global,
-    site: &mut S,
-    side: Side,
-    path: &Path,
-) -> Result<Option<Entry>, Fail> {
-    if path.names().is_empty() {
-        return Ok(None);
-    }
-    Ok(site.stat(alloc, side, path)?)
 }
 
 // A reader of the bytes 1 to 3 of a file.

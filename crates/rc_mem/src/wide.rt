@@ -278,6 +278,34 @@ impl Site for WideSite {
         Err(SiteErr::Failed)
     }
 
+    fn record_read(&mut self, _alloc: Global, _off: u64, _len: usize) -> Result<Vec<u8>, SiteErr>
+        ensures { FailsOn Part.Record result self.old self.new }
+    {
+        self.fail(Part::Record);
+        Err(SiteErr::Failed)
+    }
+
+    fn record_write(&mut self, _alloc: Global, _off: u64, _bytes: &[u8]) -> Result<(), SiteErr>
+        ensures { FailsOn Part.Record result self.old self.new }
+    {
+        self.fail(Part::Record);
+        Err(SiteErr::Failed)
+    }
+
+    fn record_cut(&mut self, _alloc: Global, _len: u64) -> Result<(), SiteErr>
+        ensures { FailsOn Part.Record result self.old self.new }
+    {
+        self.fail(Part::Record);
+        Err(SiteErr::Failed)
+    }
+
+    fn record_sync(&mut self, _alloc: Global) -> Result<(), SiteErr>
+        ensures { FailsOn Part.Record result self.old self.new }
+    {
+        self.fail(Part::Record);
+        Err(SiteErr::Failed)
+    }
+
     fn reader(&mut self, _alloc: Global, _wants: Vec<Want>) -> Result<MemReader, SiteErr>
         ensures { FailsOn Part.Source result self.old self.new }
     {

@@ -14,8 +14,7 @@ use Rattle.rc_tree.specs.Path.{key_cmp, name_cmp}
 use Rattle.rc_tree.specs.Tree.{Tree, Node}
 use Rattle.rc_tree.proofs.Keys.{name_cmp-total, key_cmp-total, name_cmp-IsAntisymmetric, same_key, key_itself, below_apart}
 use Rattle.rc_volume.specs.Site.{ComesAfter, IsListed, IsNext, IsEnd, Lists, entry_of}
-use Rattle.rc_filter.specs.Decided.{is_in_root}
-use Rattle.rc_plan.specs.Roots.{AreRootOf, are_in_order, root_nodes, root_key, keyed_entry, shown, last_listed}
+use Rattle.rc_plan.specs.Roots.{AreRootOf, are_in_order, is_in_root, root_nodes, root_key, keyed_entry, shown, last_listed}
 
 pub first_part : (a b : Bool) → T (a && b) → T a
 first_part true b p = tt

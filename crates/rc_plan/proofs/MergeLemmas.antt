@@ -1,5 +1,5 @@
 -- The merge of two listings as a relation, and what it says of the items: their order, what stands at each key, and each.
-use Rattle.std.proofs.Common.{◌≡◌, ℕ, ◌≤◌, ◌^◌, Bool, true, false, cond, List, [], ◌∷◌, ◌++◌, Option, Some, None, map, length, ◌+◌, ◌<◌, refl, sym, ap, subst, ◌∙◌, append_assoc, arith}
+use Rattle.std.proofs.Common.{◌≡◌, ℕ, ◌≤◌, ◌^◌, Bool, true, false, cond, not, ◌||◌, List, [], ◌∷◌, ◌++◌, Option, Some, None, map, length, ◌+◌, ◌<◌, refl, sym, ap, subst, ◌∙◌, append_assoc, arith}
 use Rattle.std.proofs.lemmas.Bool.{true≢false}
 use Rattle.std.proofs.lemmas.List.{append-nil}
 use Rattle.std.proofs.lemmas.List.Elements.{All-nil, All-cons, All-head, All-tail}
@@ -11,15 +11,22 @@ use Rattle.std.specs.declared.cmp.Ordering.TheVariants.{Less, Equal, Greater}
 use Rattle.rc_tree.specs.declared.attr.Kind.TheVariants.{File}
 use Rattle.rc_tree.specs.Path.{key_cmp, key_of}
 use Rattle.rc_tree.proofs.Keys.{key_cmp-total, key_cmp-IsAntisymmetric, same_key, key_itself}
-use Rattle.rc_class.specs.declared.decision.Act.TheVariants.{Extra, Keep}
+use Rattle.rc_class.specs.declared.decision.Act.{Act}
+use Rattle.rc_class.specs.declared.decision.Act.TheVariants.{Copy, Make, Touch, Fix, Purge, Extra, Mismatch, Keep}
+use Rattle.rc_class.specs.declared.decision.Reason.{Reason}
 use Rattle.rc_class.specs.declared.decision.Reason.TheVariants as reason
 use Rattle.rc_class.specs.declared.item.Item.{Item}
+use Rattle.rc_class.specs.Class.{class_against, is_mismatched}
+use Rattle.rc_class.specs.Goal.{is_left}
 use Rattle.rc_class.specs.Items.{keyed, item_at, are_rising}
 use Rattle.rc_class.specs.Units.{is_copy}
 use Rattle.rc_job.specs.declared.job.Job.{Job}
-use Rattle.rc_filter.specs.Decided.{is_in_root}
+use Rattle.rc_filter.specs.Acts.{class_act, extra_file_act, file_act, grain_of, kept_for, unless}
+use Rattle.rc_filter.specs.Matching.{is_excluded_file, is_named}
 use Rattle.rc_plan.specs.declared.found.Found.{Found}
 use Rattle.rc_plan.specs.Merge.{AreDecided, AreListed, behind, by_key, found_at, item_from, least, keyed_found}
+use Rattle.rc_plan.specs.Plan.{IsCopyOrLeft}
+use Rattle.rc_plan.specs.Roots.{is_in_root}
 use Rattle.rc_plan.proofs.ListLemmas.{first_part, second_part, both, is_less, less, holds, is_true}
 
 -- the items of two listings, key by key
@@ -140,14 +147,45 @@ item_path P job moment None None item e ours theirs = absurd (some_none item (sy
 item_path P job moment None (Some g) item e ours theirs = subst (λ (i : Item). P i.path) (same_some _ item e) theirs
 item_path P job moment (Some f) y item e ours theirs = subst (λ (i : Item). P i.path) (same_some _ item e) ours
 
-extra_stays : (kept : Bool) → is_copy (cond kept (Keep reason.Class) Extra) ≡ true → ⊥
-extra_stays true e = true≢false (sym e)
-extra_stays false e = true≢false (sym e)
+extra_left : (kept excluded unnamed : Bool) → is_left (cond kept (Keep reason.Class) (cond excluded (Keep reason.Excluded) (cond unnamed (Keep reason.NotNamed) Extra))) ≡ true
+extra_left true excluded unnamed = refl
+extra_left false true unnamed = refl
+extra_left false false true = refl
+extra_left false false false = refl
+
+-- an extra is left
+extra_stays : (job : Job) (key : List (List ℕ)) → is_left (extra_file_act job key) ≡ true
+extra_stays job key = extra_left job.xx (is_excluded_file job key) (not (is_named job key || job.all_extras))
+
+copied_not_left : (does : Act) → is_copy does ≡ true → is_left does ≡ true → ⊥
+copied_not_left Copy copied left = true≢false (sym left)
+copied_not_left Make copied left = true≢false (sym copied)
+copied_not_left Touch copied left = true≢false (sym copied)
+copied_not_left Fix copied left = true≢false (sym copied)
+copied_not_left Purge copied left = true≢false (sym copied)
+copied_not_left Extra copied left = true≢false (sym copied)
+copied_not_left Mismatch copied left = true≢false (sym copied)
+copied_not_left (Keep why) copied left = true≢false (sym copied)
+
+-- a file is copied or left
+file_left : (mismatched : Bool) (r : Option Reason) → is_copy (cond mismatched Mismatch (unless r Copy)) ≡ false → is_left (cond mismatched Mismatch (unless r Copy)) ≡ true
+file_left true r other = refl
+file_left false None other = absurd (true≢false other)
+file_left false (Some why) other = refl
+
+item_left : (job : Job) (moment : ℕ) (x y : Option Found) (item : Item) → item_from job moment x y ≡ Some item → IsCopyOrLeft item
+item_left job moment None None item e = absurd (some_none item (sym e))
+item_left job moment None (Some g) item e = subst IsCopyOrLeft (same_some _ item e) (record { left = λ _. extra_stays job (key_of g.path); stays = refl })
+item_left job moment (Some f) y item e =
+    let there = option_map (λ (found : Found). found.facts) y in
+    let class = class_against (grain_of job) f.facts there in
+    subst IsCopyOrLeft (same_some _ item e)
+    (record { left = file_left (is_mismatched class) (kept_for job moment (key_of f.path) f.facts class); stays = refl })
 
 -- what is copied is as large as the source's file
 item_size : (job : Job) (moment : ℕ) (x y : Option Found) (item : Item) → item_from job moment x y ≡ Some item → IfSome x (λ f. f.facts.size ≤ 2 ^ 40) → is_copy item.act ≡ true → item.facts.size ≤ 2 ^ 40
 item_size job moment None None item e small copied = absurd (some_none item (sym e))
-item_size job moment None (Some g) item e small copied = absurd (extra_stays job.xx (ap (λ (i : Item). is_copy i.act) (same_some _ item e) ∙ copied))
+item_size job moment None (Some g) item e small copied = absurd (copied_not_left (extra_file_act job (key_of g.path)) (ap (λ (i : Item). is_copy i.act) (same_some _ item e) ∙ copied) (extra_stays job (key_of g.path)))
 item_size job moment (Some f) y item e small copied = subst (λ (i : Item). i.facts.size ≤ 2 ^ 40) (same_some _ item e) small
 
 -- Laws of the merge
@@ -228,11 +266,18 @@ merged_small job moment s t items merged small =
     (λ x y item e p q. item_size job moment x y item e p)
     s t items merged small (λ k d l. tt)
 
+merged_left : (job : Job) (moment : ℕ) (s t : List Found) (items : List Item) → Merges job moment s t items → All IsCopyOrLeft items
+merged_left job moment s t items merged =
+    items_all (λ _. Unit {0}) (λ _. Unit {0}) IsCopyOrLeft job moment
+    (λ x y item e p q. item_left job moment x y item e)
+    s t items merged (λ k d l. tt) (λ k d l. tt)
+
 pub merged_all : (job : Job) (moment : ℕ) (s t : List Found) (items : List Item) → AreListed s → AreListed t → (job.copy.data_bytes ≡ true → All (λ found. found.facts.size ≤ 2 ^ 40) s) → Merges job moment s t items → AreDecided job moment s t items
 merged_all job moment s t items ours theirs small merged = record {
   rising = merged_rising job moment s t items merged ours theirs;
   decided = merged_items job moment s t items merged ours theirs;
   roots = merged_roots job moment s t items merged ours theirs;
+  left = merged_left job moment s t items merged;
   small = λ asked. merged_small job moment s t items merged (small asked);
 }
 

@@ -1,5 +1,5 @@
 -- That the merge of what the listings showed is the plan of the two trees.
-use Rattle.std.proofs.Common.{◌≡◌, ℕ, ◌≤◌, ◌^◌, Bool, true, false, not, cond, ◌&&◌, ◌||◌, List, [], ◌∷◌, Option, Some, None, map, leb-true, refl, sym, ap, subst, ◌∙◌}
+use Rattle.std.proofs.Common.{◌≡◌, ℕ, ◌≤◌, ◌^◌, Bool, true, false, not, cond, ◌&&◌, ◌||◌, List, [], ◌∷◌, Option, Some, None, map, length, take, leb-true, refl, sym, ap, subst, ◌∙◌}
 use Rattle.std.proofs.lemmas.Bool.{true≢false}
 use Rattle.std.proofs.lemmas.List.Elements.{All-nil, All-cons}
 use Rattle.std.specs.Prelude.{All, IfSome, nat_le, option_map}
@@ -10,16 +10,29 @@ use Rattle.std.specs.Ordering.{eq_by_cmp, is_lt}
 use Rattle.rc_tree.specs.declared.attr.Kind.{Kind}
 use Rattle.rc_tree.specs.declared.attr.Kind.TheVariants.{File, Dir}
 use Rattle.rc_tree.specs.declared.entry.Entry.{Entry}
+use Rattle.rc_tree.specs.Name.{folded}
 use Rattle.rc_tree.specs.Path.{key_cmp, key_of}
-use Rattle.rc_tree.specs.Tree.{Tree, Node}
+use Rattle.rc_tree.specs.Spelled.{spelled, spelling_of}
+use Rattle.rc_tree.specs.Tree.{Tree, Node, kind_at}
+use Rattle.rc_tree.proofs.Keys.{same_key}
+use Rattle.rc_class.specs.declared.item.Item.{Item}
 use Rattle.rc_class.specs.Class.{facts_of}
 use Rattle.rc_job.specs.declared.job.Job.{Job}
-use Rattle.rc_filter.specs.Decided.{decided_at, is_file, is_file_kind, is_in_root, item_of, spelling_of}
+use Rattle.rc_filter.specs.Acts.{directory_act, extra_act, extra_file_act, file_act, kind_and_props_of}
+use Rattle.rc_filter.specs.Decided.{act_for, decided_at, extra_item, item_of, some_copied, source_item}
+use Rattle.rc_filter.specs.Matching.{is_excluded_directory}
+use Rattle.rc_filter.specs.Scope.{are_directories, decides, each_front, enters, is_above_in_scope, is_directory, is_file, reaches}
 use Rattle.rc_volume.specs.Site.{Told, entry_of}
 use Rattle.rc_plan.specs.declared.found.Found.{Found}
-use Rattle.rc_plan.specs.Merge.{AreListed, found_at, found_of, item_from, keyed_found}
-use Rattle.rc_plan.specs.Roots.{AreRootOf, AreRootsOf, are_built, are_files, are_in_order, are_listed_built, are_small, has_files, is_small, keyed_entry, root_key, root_nodes, shown}
+use Rattle.rc_plan.specs.Merge.{AreListed, extra_file_item, file_item, found_at, found_of, item_from, keyed_found}
+use Rattle.rc_plan.specs.Roots.{AreRootOf, AreRootsOf, are_built, are_files, are_in_order, are_listed_built, are_small, has_files, is_file_kind, is_in_root, is_small, keyed_entry, root_key, root_nodes, shown}
 use Rattle.rc_plan.proofs.ListLemmas.{get_kept}
+
+some_none : {A : Type 0} (x : A) → None ≡ Some x → ⊥
+some_none x e = cc
+
+same_some : {A : Type 0} (x y : A) → Some x ≡ Some y → x ≡ y
+same_some x y e = cc
 
 pub first_of : (a b : Bool) → a && b ≡ true → a ≡ true
 first_of true b e = refl
@@ -156,17 +169,82 @@ file_at tree entries name root files =
     subst (λ (o : Option Node). IfSome o (λ node. is_file_kind node.kind ≡ true)) (find_root tree (name ∷ []))
     (found_passes (λ node. is_file_kind node.kind) (root_nodes tree) (name ∷ []) (sym (all_root (λ entry. is_file_kind entry.kind) tree entries root) ∙ files))
 
-decided_so : (job : Job) (moment : ℕ) (source target : Option Node) → IfSome source (λ node. is_file_kind node.kind ≡ true) → IfSome target (λ node. is_file_kind node.kind ≡ true) → item_from job moment (option_map (λ (node : Node). found_of (entry_of node)) source) (option_map (λ (node : Node). found_of (entry_of node)) target) ≡ cond (is_file source || is_file target) (item_of job moment (spelling_of source ∷ []) (spelling_of target ∷ []) (option_map facts_of source) (option_map facts_of target)) None
-decided_so job moment None None mine yours = refl
-decided_so job moment None (Some there) mine yours =
-    ap (λ b. cond b (item_of job moment ([] ∷ []) (there.spelling ∷ []) None (Some (facts_of there))) None) (sym yours)
-decided_so job moment (Some node) target mine yours =
-    by_target target
-    ∙ ap (λ b. cond (b || is_file target) (item_of job moment (node.spelling ∷ []) (spelling_of target ∷ []) (Some (facts_of node)) (option_map facts_of target)) None) (sym mine)
+-- and is spelled as its key
+found_key : (all : List Found) (key : List (List ℕ)) (found : Found) → found_at all key ≡ Some found → key_of found.path ≡ key
+found_key [] key found e = absurd (some_none found e)
+found_key (first ∷ all) key found e =
+    elim (eq_by_cmp key_cmp key (key_of first.path)) as (λ b. eq_by_cmp key_cmp key (key_of first.path) ≡ b → cond b (Some first) (found_at all key) ≡ Some found → key_of found.path ≡ key) [
+      | true ↦ λ at is. ap (λ (f : Found). key_of f.path) (sym (same_some first found is)) ∙ sym (same_key key (key_of first.path) at)
+      | false ↦ λ _ later. found_key all key found later
+    ] refl e
+
+spelled_at : (tree : Tree) (entries : List Entry) (name : List ℕ) → AreRootOf tree entries → IfSome (get tree (name ∷ [])) (λ node. folded node.spelling ∷ [] ≡ name ∷ [])
+spelled_at tree entries name root = by (get tree (name ∷ [])) refl
   where
-    by_target : (t : Option Node) → item_from job moment (Some (found_of (entry_of node))) (option_map (λ (n : Node). found_of (entry_of n)) t) ≡ item_of job moment (node.spelling ∷ []) (spelling_of t ∷ []) (Some (facts_of node)) (option_map facts_of t)
-    by_target None = refl
-    by_target (Some there) = refl
+    by : (o : Option Node) → get tree (name ∷ []) ≡ o → IfSome o (λ node. folded node.spelling ∷ [] ≡ name ∷ [])
+    by None e = tt
+    by (Some node) e = found_key (map found_of entries) (name ∷ []) (found_of (entry_of node)) (found_root tree entries (name ∷ []) root ∙ ap (option_map (λ (n : Node). found_of (entry_of n))) e)
+
+-- Decided keys
+
+and_true : (a b c : Bool) → a ≡ true → ((a || b || c) && true) ≡ true
+and_true true b c e = refl
+and_true false b c e = absurd (true≢false (sym e))
+
+or_true : (a c : Bool) → a ≡ true → ((a || c) && true) ≡ true
+or_true true c e = refl
+or_true false c e = absurd (true≢false (sym e))
+
+and_false : (a b : Bool) → b ≡ false → a && b ≡ false
+and_false true b e = e
+and_false false b e = refl
+
+abbrev kinds : Option Node → Option Kind
+kinds = option_map (λ (node : Node). node.kind)
+
+-- a file of the source
+source_so : (job : Job) (moment : ℕ) (key : List (List ℕ)) (some : Bool) (node : Node) (target : Option Node) → node.kind ≡ File → folded node.spelling ∷ [] ≡ key → file_item job moment (found_of (entry_of node)) (option_map facts_of target) ≡ source_item job moment key (node.spelling ∷ []) some node target
+source_so job moment key some node target file keyed =
+    ap (λ (k : List (List ℕ)). record source { act = file_act job moment k (facts_of node) (option_map facts_of target) }) keyed
+    ∙ ap (λ (k : Kind). record source { act = act_for k (file_act job moment key (facts_of node) (option_map facts_of target)) (directory_act job key node.props (option_map kind_and_props_of target) some) }) (sym file)
+  where
+    source : Item
+    source = source_item job moment key (node.spelling ∷ []) some node target
+
+extra_so : (job : Job) (key : List (List ℕ)) (there : Node) → there.kind ≡ File → folded there.spelling ∷ [] ≡ key → extra_file_item job (found_of (entry_of there)) ≡ extra_item job key (there.spelling ∷ []) there
+extra_so job key there file keyed =
+    ap (λ (k : List (List ℕ)). record extra { act = extra_file_act job k }) keyed
+    ∙ ap (λ (k : Kind). record extra { act = extra_act job key k }) (sym file)
+  where
+    extra : Item
+    extra = extra_item job key (there.spelling ∷ []) there
+
+facts_found : (target : Option Node) → option_map (λ (found : Found). found.facts) (option_map (λ (node : Node). found_of (entry_of node)) target) ≡ option_map facts_of target
+facts_found None = refl
+facts_found (Some there) = refl
+
+decided_so : (job : Job) (moment : ℕ) (key : List (List ℕ)) (some reached : Bool) (source target : Option Node) → IfSome source (λ node. is_file_kind node.kind ≡ true) → IfSome target (λ node. is_file_kind node.kind ≡ true) → IfSome source (λ node. folded node.spelling ∷ [] ≡ key) → IfSome target (λ node. folded node.spelling ∷ [] ≡ key) → item_from job moment (option_map (λ (node : Node). found_of (entry_of node)) source) (option_map (λ (node : Node). found_of (entry_of node)) target) ≡ cond ((is_file (kinds source) || is_file (kinds target) || ((is_directory (kinds source) || is_directory (kinds target)) && reached)) && true) (item_of job moment key (spelling_of source ∷ []) (spelling_of target ∷ []) some source target) None
+decided_so job moment key some reached None None mine yours ours theirs = refl
+decided_so job moment key some reached None (Some there) mine yours ours theirs =
+    let file = file_kind there.kind yours in
+    ap (λ (i : Item). Some i) (extra_so job key there file theirs)
+    ∙ sym (ap (λ b. cond b (Some (extra_item job key (there.spelling ∷ []) there)) None) (or_true (is_file (Some there.kind)) (is_directory (Some there.kind) && reached) (ap (λ k. is_file (Some k)) file)))
+decided_so job moment key some reached (Some node) target mine yours ours theirs =
+    let file = file_kind node.kind mine in
+    ap (λ there. Some (file_item job moment (found_of (entry_of node)) there)) (facts_found target)
+    ∙ ap (λ (i : Item). Some i) (source_so job moment key some node target file ours)
+    ∙ sym (ap (λ b. cond b (Some (source_item job moment key (node.spelling ∷ []) some node target)) None) (ored (is_file (Some node.kind)) (is_file (kinds target)) _ (ap (λ k. is_file (Some k)) file)))
+  where
+    ored : (a b c : Bool) → a ≡ true → ((a || b || c) && true) ≡ true
+    ored = and_true
+
+-- a root without directories is the only directory in scope
+no_directory : (source target : Option Node) → IfSome source (λ node. is_file_kind node.kind ≡ true) → IfSome target (λ node. is_file_kind node.kind ≡ true) → are_directories (kinds source) (kinds target) ≡ false
+no_directory None None mine yours = refl
+no_directory None (Some there) mine yours = ap (λ k. are_directories None (Some k)) (file_kind there.kind yours)
+no_directory (Some node) None mine yours = ap (λ k. are_directories (Some k) None) (file_kind node.kind mine)
+no_directory (Some node) (Some there) mine yours =
+    ap (λ k. are_directories (Some k) (Some there.kind)) (file_kind node.kind mine) ∙ ap (λ k. are_directories (Some File) (Some k)) (file_kind there.kind yours)
 
 -- what the merge has at a key is what is decided there of the two trees
 pub decided : (job : Job) (moment : ℕ) (told : Told) (source target : List Entry) (key : List (List ℕ)) → AreRootsOf told source target → are_listed_built job source target ≡ true → item_from job moment (found_at (map found_of source) key) (found_at (map found_of target) key) ≡ decided_at job told.source told.target moment key
@@ -175,10 +253,23 @@ decided job moment told source target key roots all =
     ∙ ap (λ (y : Option Found). item_from job moment (option_map (λ (node : Node). found_of (entry_of node)) (cond (is_in_root key) (get told.source key) None)) y) (found_root told.target target key roots.theirs)
     ∙ by_key key
   where
+    mine : (name : List ℕ) → IfSome (get told.source (name ∷ [])) (λ node. is_file_kind node.kind ≡ true)
+    mine name = file_at told.source source name roots.ours (built job source target all).ours
+
+    yours : (name : List ℕ) → IfSome (get told.target (name ∷ [])) (λ node. is_file_kind node.kind ≡ true)
+    yours name = file_at told.target target name roots.theirs (built job source target all).theirs
+
     by_key : (key : List (List ℕ)) → item_from job moment (option_map (λ (node : Node). found_of (entry_of node)) (cond (is_in_root key) (get told.source key) None)) (option_map (λ (node : Node). found_of (entry_of node)) (cond (is_in_root key) (get told.target key) None)) ≡ decided_at job told.source told.target moment key
-    by_key [] = refl
+    by_key [] =
+        sym (ap (λ b. cond b (item_of job moment [] [] [] (some_copied job told.source told.target moment []) (get told.source []) (get told.target [])) None) (and_false (decides job [] (kind_at told.source []) (kind_at told.target [])) false refl))
     by_key (name ∷ []) =
-        decided_so job moment (get told.source (name ∷ [])) (get told.target (name ∷ []))
-        (file_at told.source source name roots.ours (built job source target all).ours)
-        (file_at told.target target name roots.theirs (built job source target all).theirs)
-    by_key (name ∷ next ∷ names) = refl
+        decided_so job moment (name ∷ []) (some_copied job told.source told.target moment (name ∷ [])) (reaches job (name ∷ [])) (get told.source (name ∷ [])) (get told.target (name ∷ []))
+        (mine name) (yours name)
+        (spelled_at told.source source name roots.ours)
+        (spelled_at told.target target name roots.theirs)
+    by_key (name ∷ next ∷ names) =
+        let key = name ∷ next ∷ names in
+        let outside : is_above_in_scope job told.source told.target key ≡ false =
+        ap (λ b. b && each_front (λ front. enters job front (kind_at told.source front) (kind_at told.target front)) (name ∷ []) (take (length names) (next ∷ names)))
+        (and_false (reaches job (name ∷ []) && not (is_excluded_directory job (name ∷ []))) _ (no_directory (get told.source (name ∷ [])) (get told.target (name ∷ [])) (mine name) (yours name))) in
+        sym (ap (λ b. cond b (item_of job moment key (spelled told.source key) (spelled told.target key) (some_copied job told.source told.target moment key) (get told.source key) (get told.target key)) None) (and_false (decides job key (kind_at told.source key) (kind_at told.target key)) _ outside))

@@ -6,12 +6,17 @@ use Rattle.std.specs.declared.cmp.Ordering.TheVariants.{Less, Equal, Greater}
 use Rattle.rc_tree.specs.declared.attr.Kind.TheVariants.{File}
 use Rattle.rc_tree.specs.declared.entry.Entry.{Entry}
 use Rattle.rc_tree.specs.Path.{key_of, key_cmp}
+use Rattle.rc_class.specs.declared.class.Class.TheVariants.{Extra}
+use Rattle.rc_class.specs.declared.decision.After.TheVariants.{Nothing}
+use Rattle.rc_class.specs.declared.facts.Facts.{Facts}
 use Rattle.rc_class.specs.declared.item.Item.{Item}
+use Rattle.rc_class.specs.Class.{class_against}
 use Rattle.rc_class.specs.Items.{are_rising, item_at}
 use Rattle.rc_job.specs.declared.job.Job.{Job}
-use Rattle.rc_filter.specs.Decided.{is_in_root, item_of}
+use Rattle.rc_filter.specs.Acts.{extra_file_act, file_act, grain_of}
 use Rattle.rc_plan.specs.declared.found.Found.{Found}
-use Rattle.rc_plan.specs.Plan.{AreInRoot, AreSmallCopies}
+use Rattle.rc_plan.specs.Plan.{AreCopiesOrLeft, AreInRoot, AreSmallCopies}
+use Rattle.rc_plan.specs.Roots.{is_in_root}
 
 -- what is decided by of an entry of a root
 abbrev pub found_of : Entry → Found
@@ -34,15 +39,31 @@ pub record AreListed (all : List Found) : Type 0 where
   pub files : All (λ found. found.facts.kind ≡ File) all
   pub roots : All (λ found. is_in_root (key_of found.path) ≡ true) all
 
--- as it is spelled
-abbrev pub path_in : Option Found → List (List ℕ)
-path_in None = []
-path_in (Some found) = found.path
+-- the item of a file that the source has, where the target has that there
+abbrev pub file_item : Job → ℕ → Found → Option Facts → Item
+file_item job moment source target = record {
+  path = source.path;
+  act = file_act job moment (key_of source.path) source.facts target;
+  class = class_against (grain_of job) source.facts target;
+  after = Nothing;
+  facts = source.facts;
+}
 
--- the item of a key at which the two sides have these
+-- the item of a file that the target alone has
+abbrev pub extra_file_item : Job → Found → Item
+extra_file_item job target = record {
+  path = target.path;
+  act = extra_file_act job (key_of target.path);
+  class = Extra;
+  after = Nothing;
+  facts = target.facts;
+}
+
+-- the item of a key at which the two sides have these files
 abbrev pub item_from : Job → ℕ → Option Found → Option Found → Option Item
-item_from job moment source target =
-    item_of job moment (path_in source) (path_in target) (option_map (λ found. found.facts) source) (option_map (λ found. found.facts) target)
+item_from job moment (Some source) target = Some (file_item job moment source (option_map (λ found. found.facts) target))
+item_from job moment None (Some target) = Some (extra_file_item job target)
+item_from job moment None None = None
 
 -- what the two sides have at the least key of both
 abbrev pub by_key : Ordering → Found → Found → Option Found × Option Found
@@ -67,4 +88,5 @@ pub record AreDecided (job : Job) (moment : ℕ) (source target : List Found) (i
   pub rising : are_rising items ≡ true
   pub decided : (key : List (List ℕ)) → item_at items key ≡ item_from job moment (found_at source key) (found_at target key)
   pub roots : AreInRoot items
+  pub left : AreCopiesOrLeft items
   pub small : job.copy.data_bytes ≡ true → AreSmallCopies items

@@ -1,14 +1,21 @@
 -- What a listing of a root shows, and which roots are mirrored so far.
-use Rattle.std.specs.Prelude.{◌≡◌, ℕ, ◌^◌, Bool, not, ◌&&◌, ◌||◌, List, [], ◌∷◌, Option, Some, None, map, length, nat_le}
+use Rattle.std.specs.Prelude.{◌≡◌, ℕ, ◌^◌, Bool, true, false, not, ◌&&◌, ◌||◌, List, [], ◌∷◌, Option, Some, None, map, length, nat_le}
 use Rattle.std.specs.List.{list_all}
 use Rattle.std.specs.FinMap.{entries, retain_keys, is_sorted}
+use Rattle.rc_tree.specs.declared.attr.Kind.{Kind}
+use Rattle.rc_tree.specs.declared.attr.Kind.TheVariants.{File, Dir}
 use Rattle.rc_tree.specs.declared.entry.Entry.{Entry}
 use Rattle.rc_tree.specs.Name.{folded}
 use Rattle.rc_tree.specs.Path.{key_cmp}
 use Rattle.rc_tree.specs.Tree.{IsTree, Node, Tree}
 use Rattle.rc_job.specs.declared.job.Job.{Job}
 use Rattle.rc_volume.specs.Site.{Told, entry_of}
-use Rattle.rc_filter.specs.Decided.{is_file_kind, is_in_root}
+
+-- whether it is the key of an entry of the root
+abbrev pub is_in_root : List (List ℕ) → Bool
+is_in_root [] = false
+is_in_root (name ∷ []) = true
+is_in_root (name ∷ next ∷ names) = false
 
 -- what stands in a tree's root, in the order of keys
 abbrev pub root_nodes : Tree → List (List (List ℕ) × Node)
@@ -51,6 +58,10 @@ pub record AreTrees (told : Told) : Type 0 where
   pub target : IsTree told.target
 
 -- What is mirrored so far
+
+abbrev pub is_file_kind : Kind → Bool
+is_file_kind File = true
+is_file_kind Dir = false
 
 -- whether the root holds files alone
 abbrev pub has_files : Tree → Bool

@@ -3,8 +3,7 @@
 ghost use Rattle.std.specs.Prelude.{◌≡◌, ◌≤◌, ◌^◌, true, All, IfOk, IfSome};
 ghost use Rattle.std.specs.Option.{option_copied};
 ghost use Rattle.rc_tree.specs.declared.attr.Kind.TheVariants.{File};
-ghost use Rattle.rc_filter.specs.Decided.{extra_item, source_item};
-ghost use Rattle.rc_plan.specs.Merge.{AreDecided, AreListed, behind, item_from, least};
+ghost use Rattle.rc_plan.specs.Merge.{AreDecided, AreListed, behind, extra_file_item, file_item, item_from, least};
 
 use crate::found::Found;
 use rc_class::{After, Class, Facts, Item, class_of};
@@ -93,15 +92,15 @@ fn decide(
     match (source, target) {
         (Some(source), target) => {
             let there = target.map(|found| found.facts);
-            Ok(Some(source_item(alloc, job, moment, source, there)?))
+            Ok(Some(file_item(alloc, job, moment, source, there)?))
         }
-        (None, Some(target)) => Ok(Some(extra_item(alloc, job, target)?)),
+        (None, Some(target)) => Ok(Some(extra_file_item(alloc, job, target)?)),
         (None, None) => Ok(None),
     }
 }
 
 // The item of a file that the source has.
-fn source_item(
+fn file_item(
     alloc: Global,
     job: &Job,
     moment: Moment,
@@ -110,7 +109,7 @@ fn source_item(
 ) -> Result<Item, NoMemory>
     requires { source.now.facts.kind ≡ File }
     ensures { IfOk result
-        (λ item. item ≡ source_item job.now moment source.now.path source.now.facts target) }
+        (λ item. item ≡ file_item job.now moment source.now target) }
 {
     Ok(Item {
         path: source.path.copy(alloc)?,
@@ -122,9 +121,9 @@ fn source_item(
 }
 
 // The item of a file that the target alone has.
-fn extra_item(alloc: Global, job: &Job, target: &Found) -> Result<Item, NoMemory>
+fn extra_file_item(alloc: Global, job: &Job, target: &Found) -> Result<Item, NoMemory>
     requires { target.now.facts.kind ≡ File }
-    ensures { IfOk result (λ item. item ≡ extra_item job.now target.now.path target.now.facts) }
+    ensures { IfOk result (λ item. item ≡ extra_file_item job.now target.now) }
 {
     Ok(Item {
         path: target.path.copy(alloc)?,

@@ -7,6 +7,7 @@ use Rattle.rc_class.specs.declared.class.Class.TheVariants as class
 use Rattle.rc_class.specs.declared.decision.Act.{Act}
 use Rattle.rc_class.specs.declared.decision.Act.TheVariants as act
 use Rattle.rc_class.specs.declared.item.Item.{Item}
+use Rattle.rc_class.specs.Class.{is_extra}
 use Rattle.rc_report.specs.declared.totals.Column.{Column}
 use Rattle.rc_report.specs.declared.totals.Column.TheVariants.{Total, Copied, Skipped, Mismatch, Failed, Extras}
 use Rattle.rc_report.specs.declared.totals.Measure.{Measure}
@@ -15,10 +16,6 @@ use Rattle.rc_report.specs.declared.totals.Row.{Row}
 use Rattle.rc_report.specs.declared.totals.Totals.{Totals}
 
 -- Columns
-
-abbrev pub is_extra : Class → Bool
-is_extra class.Extra = true
-is_extra other = false
 
 -- whether the source has an entry of an item's key
 abbrev pub has_source : Item → Bool
@@ -101,6 +98,7 @@ right_in width text = replicate (width - length text) 32 ++ text
 abbrev pub line_end : List ℕ
 line_end = 10 ∷ []
 
+-- what a copy is called by the class of its file
 abbrev pub class_tag : Class → List ℕ
 class_tag class.Lonely = codes "New File"
 class_tag class.Extra = codes "*EXTRA File"
@@ -111,24 +109,47 @@ class_tag class.Tweaked = codes "Tweaked"
 class_tag class.Same = codes "Same"
 class_tag class.Mismatched = codes "*Mismatch"
 
--- whether a key with this act has a line
+-- what an entry that the target alone has is called
+abbrev pub extra_tag : Kind → List ℕ
+extra_tag File = codes "*EXTRA File"
+extra_tag Dir = codes "*EXTRA Dir"
+
+-- the first words of a line
+abbrev pub tag_of : Act → Class → Kind → List ℕ
+tag_of act.Copy class kind = class_tag class
+tag_of act.Make class kind = codes "New Dir"
+tag_of act.Touch class kind = codes "Dir"
+tag_of act.Fix class kind = codes "Fixed"
+tag_of act.Purge class kind = extra_tag kind
+tag_of act.Extra class kind = extra_tag kind
+tag_of act.Mismatch class kind = codes "*Mismatch"
+tag_of (act.Keep reason) class kind = codes "skipped"
+
+-- whether a key with this act has a line: only what is kept has none
 abbrev pub is_shown : Act → Bool
-is_shown act.Copy = true
-is_shown act.Purge = true
-is_shown act.Extra = true
-is_shown act.Mismatch = true
-is_shown other = false
+is_shown (act.Keep reason) = false
+is_shown other = true
+
+-- a directory has no size
+abbrev pub size_text : Kind → ℕ → List ℕ
+size_text File size = decimal size
+size_text Dir size = codes "-"
 
 -- the names with `\` between them
 abbrev pub path_text : List (List ℕ) → List ℕ
 path_text [] = []
 path_text (name ∷ names) = encode_utf8_all name ++ flat_map (λ (next : List ℕ). 92 ∷ encode_utf8_all next) names
 
+-- what stands behind a path: a directory has a `\`
+abbrev pub path_end : Kind → List ℕ
+path_end File = []
+path_end Dir = codes "\\"
+
 -- the line of a key that has one
 abbrev pub shown_line : Item → List ℕ
 shown_line item =
-    codes "  " ++ left_in 12 (class_tag item.class) ++ right_in 12 (decimal item.facts.size)
-    ++ codes "  " ++ path_text item.path ++ line_end
+    codes "  " ++ left_in 12 (tag_of item.act item.class item.facts.kind) ++ right_in 12 (size_text item.facts.kind item.facts.size)
+    ++ codes "  " ++ path_text item.path ++ path_end item.facts.kind ++ line_end
 
 abbrev pub item_line : Item → List ℕ
 item_line item = if is_shown item.act then shown_line item else []

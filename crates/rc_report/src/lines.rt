@@ -1,11 +1,11 @@
 //! The lines of a report.
 
 ghost use Rattle.std.specs.Prelude.{◌≡◌, ◌-◌, ◌++◌, ◌∷◌, OnOk, IfOk, string_bytes, decimal, encode_utf8_all, flat_map, replicate};
-ghost use Rattle.rc_report.specs.Report.{class_tag, is_shown, left_in, path_text, right_in, row_line, shown_line, summary};
+ghost use Rattle.rc_report.specs.Report.{class_tag, extra_tag, is_shown, left_in, path_end, path_text, right_in, row_line, shown_line, size_text, summary, tag_of};
 
 use crate::{Row, Totals};
 use rc_class::{Act, Class, Item};
-use rc_tree::{Name, Path};
+use rc_tree::{Kind, Name, Path};
 use std::alloc::{AllocError, Global};
 
 const COLUMNS: &str = "              Total    Copied   Skipped  Mismatch    FAILED    Extras\n";
@@ -14,7 +14,7 @@ const COLUMNS: &str = "              Total    Copied   Skipped  Mismatch    FAIL
 pub(crate) fn is_shown(act: Act) -> bool
     ensures { result ≡ is_shown act }
 {
-    matches!(act, Act::Copy | Act::Purge | Act::Extra | Act::Mismatch)
+    !matches!(act, Act::Keep(_))
 }
 
 /// The line of a key that has one.
@@ -22,10 +22,11 @@ pub(crate) fn shown_line(alloc: Global, item: &Item) -> Result<String, AllocErro
     ensures { IfOk result (λ line. string_bytes line ≡ shown_line item.now) }
 {
     let mut line = String::from_str(alloc, "  ")?;
-    push_left(&mut line, 12, class_tag(item.class))?;
-    push_right(&mut line, 12, &item.facts.size.to_string(alloc)?)?;
+    push_left(&mut line, 12, tag_of(item.act, item.class, item.facts.kind))?;
+    push_size(alloc, &mut line, item.facts.kind, item.facts.size)?;
     line.push_str("  ")?;
     push_path(&mut line, &item.path)?;
+    line.push_str(path_end(item.facts.kind))?;
     line.push('\n')?;
     Ok(line)
 }
@@ -43,6 +44,30 @@ pub(crate) fn summary(alloc: Global, totals: &Totals) -> Result<String, AllocErr
 }
 
 // The first words of a line.
+fn tag_of(act: Act, class: Class, kind: Kind) -> &'static str
+    ensures { result.now ≡ tag_of act class kind }
+{
+    match act {
+        Act::Copy => class_tag(class),
+        Act::Make => "New Dir",
+        Act::Touch => "Dir",
+        Act::Fix => "Fixed",
+        Act::Purge | Act::Extra => extra_tag(kind),
+        Act::Mismatch => "*Mismatch",
+        Act::Keep(_) => "skipped",
+    }
+}
+
+fn extra_tag(kind: Kind) -> &'static str
+    ensures { result.now ≡ extra_tag kind }
+{
+    match kind {
+        Kind::File => "*EXTRA File",
+        Kind::Dir => "*EXTRA Dir",
+    }
+}
+
+// What a copy is called by the class of its file.
 fn class_tag(class: Class) -> &'static str
     ensures { result.now ≡ class_tag class }
 {
@@ -55,6 +80,27 @@ fn class_tag(class: Class) -> &'static str
         Class::Tweaked => "Tweaked",
         Class::Same => "Same",
         Class::Mismatched => "*Mismatch",
+    }
+}
+
+// What stands behind a path.
+fn path_end(kind: Kind) -> &'static str
+    ensures { result.now ≡ path_end kind }
+{
+    match kind {
+        Kind::File => "",
+        Kind::Dir => "\\",
+    }
+}
+
+// Adds the size of an entry; a directory has none.
+fn push_size(alloc: Global, line: &mut String, kind: Kind, size: u64) -> Result<(), AllocError>
+    ensures { OnOk result
+        (string_bytes line.new ≡ string_bytes line.old ++ right_in 12 (size_text kind size)) }
+{
+    match kind {
+        Kind::File => push_right(line, 12, &size.to_string(alloc)?),
+        Kind::Dir => push_right(line, 12, "-"),
     }
 }
 

@@ -30,7 +30,7 @@ const FILES: &[(&str, u64, Act, Class)] = &[
 ];
 
 const FILES_REPORT: &str =
-    "  New File               5  a.txt\n  Newer                 70  b.txt\n  Older                800  c.txt\n  Changed             9000  d.txt\n  New File    1234567890123  dir\\n.txt\n  Tweaked                1  e.txt\n  Same                   2  f.txt\n  *Mismatch              6  j\n  *EXTRA File           12  k.txt\n  *EXTRA File           13  l.txt\n  New File               4  \u{212A}.txt\n\n              Total    Copied   Skipped  Mismatch    FAILED    Extras\n   Dirs :         0         0         0         0         0         0\n  Files :        12         8         3         1         0         2\n  Bytes :12345689004411234567900005   1000430         6         0        25\n";
+    "  New File               5  a.txt\n  Newer                 70  b.txt\n  Older                800  c.txt\n  Changed             9000  d.txt\n  New File    1234567890123  dir\\n.txt\n  Tweaked                1  e.txt\n  Same                   2  f.txt\n  Fixed                 30  h.txt\n  *Mismatch              6  j\n  *EXTRA File           12  k.txt\n  *EXTRA File           13  l.txt\n  New File               4  \u{212A}.txt\n\n              Total    Copied   Skipped  Mismatch    FAILED    Extras\n   Dirs :         0         0         0         0         0         0\n  Files :        12         8         3         1         0         2\n  Bytes :12345689004411234567900005   1000430         6         0        25\n";
 
 const DIRS: &[(&str, u64, Act, Class)] = &[
     ("a", 0, Act::Make, Class::Lonely),
@@ -43,7 +43,7 @@ const DIRS: &[(&str, u64, Act, Class)] = &[
 ];
 
 const DIRS_REPORT: &str =
-    "  *Mismatch              0  d\n  *EXTRA File            0  e\n  *EXTRA File            0  f\n\n              Total    Copied   Skipped  Mismatch    FAILED    Extras\n   Dirs :         4         1         2         1         0         2\n  Files :         0         0         0         0         0         0\n  Bytes :         0         0         0         0         0         0\n";
+    "  New Dir                -  a\\\n  Dir                    -  b\\\n  *Mismatch              -  d\\\n  *EXTRA Dir             -  e\\\n  *EXTRA Dir             -  f\\\n\n              Total    Copied   Skipped  Mismatch    FAILED    Extras\n   Dirs :         4         1         2         1         0         2\n  Files :         0         0         0         0         0         0\n  Bytes :         0         0         0         0         0         0\n";
 
 const KEPT: &[(&str, u64, Act, Class)] = &[
     ("a", 3, Act::Keep(Reason::Class), Class::Same),

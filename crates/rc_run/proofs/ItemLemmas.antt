@@ -20,13 +20,13 @@ use Rattle.rc_class.specs.Goal.{is_left}
 use Rattle.rc_class.specs.Items.{keyed, item_at, are_rising}
 use Rattle.rc_class.specs.Units.{is_copy}
 use Rattle.rc_class.proofs.Left.{left_stays}
-use Rattle.rc_filter.specs.Decided.{IsCopyable}
 use Rattle.rc_volume.specs.declared.want.Want.{Want}
 use Rattle.rc_volume.specs.Reading.{Opens}
 use Rattle.rc_volume.specs.Site.{IsWithin, Told}
 use Rattle.rc_run.specs.declared.copying.Copying.{Copying}
 use Rattle.rc_run.specs.Copying.{goal_under, after_items, AreBetween, IsBetween, IsChangedBy, IsDoable, IsDoableIn, IsOnItsWay}
 use Rattle.rc_run.specs.Reading.{is_read, whole_file, whole_files}
+use Rattle.rc_run.proofs.CopyableLemmas.{IsCopyable, copyable}
 use Rattle.rc_run.proofs.NodeLemmas.{goal_way}
 
 pub first_so : (a b : Bool) → T (a && b) → T a
@@ -91,7 +91,7 @@ wants_within source target with_bytes (item ∷ items) doable =
     by_first : (b : Bool) → is_read with_bytes item ≡ b → All (IsWithin source) (whole_files with_bytes items) → All (IsWithin source) (map whole_file (cond b (item ∷ filter (is_read with_bytes) items) (filter (is_read with_bytes) items)))
     by_first true e rest =
         let copied = first_true (is_copy item.act) _ (second_true with_bytes _ e) in
-        All-cons (IsWithin source) (whole_file item) (whole_files with_bytes items) (within_item (get source (key_of item.path)) (get target (key_of item.path)) item ((doable 0 item (omega arith)).copies copied)) rest
+        All-cons (IsWithin source) (whole_file item) (whole_files with_bytes items) (within_item (get source (key_of item.path)) (get target (key_of item.path)) item (copyable item (get source (key_of item.path)) (get target (key_of item.path)) (doable 0 item (omega arith)) copied)) rest
     by_first false e rest = rest
 
 -- The keys of items that rise
@@ -197,9 +197,9 @@ done_item copying items i start now key item doable sofar e =
       item = item;
       decided = all;
       copies = copied;
-      way = goal_way copying item (get start.source key) (get start.target key) (get now key) (at.copies copied) copied done;
+      way = goal_way copying item (get start.source key) (get start.target key) (get now key) (copyable item (get start.source key) (get start.target key) at copied) copied done;
     })
-    by_act all at done false other = inl (done ∙ left_so copying item (get start.source key) (get start.target key) (at.leaves other))
+    by_act all at done false other = inl (done ∙ left_so copying item (get start.source key) (get start.target key) (at.left.left other))
 
 -- where the first items are done each key is as it was, or its item changed it
 pub between_done : (copying : Copying) (items : List Item) (i : ℕ) (start : Told) (now : Tree) → All (IsDoableIn start.source start.target) items → ((key : List (List ℕ)) → get now key ≡ after_items copying (take i items) start.source start.target key) → AreBetween copying items start now

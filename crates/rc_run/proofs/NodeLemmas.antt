@@ -13,9 +13,9 @@ use Rattle.rc_class.specs.declared.class.Class.TheVariants.{Lonely, Extra, Newer
 use Rattle.rc_class.specs.declared.decision.Act.{Act}
 use Rattle.rc_class.specs.declared.decision.Act.TheVariants as act
 use Rattle.rc_class.specs.declared.item.Item.{Item}
-use Rattle.rc_class.specs.Goal.{picked, archive_alone, base_file, copied_file, copied_props, fresh_props, goal_of_act}
+use Rattle.rc_class.specs.Class.{is_lonely}
+use Rattle.rc_class.specs.Goal.{picked, archive_alone, copied_file, copied_props, copy_base, new_file, fresh_props, goal_of_act}
 use Rattle.rc_class.specs.Units.{is_copy}
-use Rattle.rc_filter.specs.Decided.{IsCopyable}
 use Rattle.rc_volume.specs.declared.want.Want.{Want}
 use Rattle.rc_volume.specs.Reading.{Opens, part_of}
 use Rattle.rc_volume.specs.declared.site.SiteErr.{SiteErr}
@@ -23,8 +23,9 @@ use Rattle.rc_volume.specs.declared.site.SiteErr.TheVariants as site_err
 use Rattle.rc_volume.specs.Site.{Puts, ReadsFrom, Resizes, Turns, bytes_in, no_props, resized, with_props}
 use Rattle.rc_run.specs.declared.copying.CopyErr.{CopyErr}
 use Rattle.rc_run.specs.declared.copying.Copying.{Copying}
-use Rattle.rc_run.specs.Copying.{begun_file, finished_props, goal_under, is_lonely, with_bytes_of, Copies, Fills, Finishes, GivesProps, IsBetween, IsHalfCopied, IsOnItsWay, IsRefilled}
+use Rattle.rc_run.specs.Copying.{begun_file, finished_props, goal_under, with_bytes_of, Copies, Fills, Finishes, GivesProps, IsBetween, IsHalfCopied, IsOnItsWay, IsRefilled}
 use Rattle.rc_run.specs.Reading.{is_read}
+use Rattle.rc_run.proofs.CopyableLemmas.{IsCopyable}
 
 same_some : (x y : Node) → Some x ≡ Some y → x ≡ y
 same_some x y e = cc
@@ -107,15 +108,9 @@ lonely_so Tweaked other = refl
 lonely_so Same other = refl
 lonely_so Mismatched other = refl
 
-goal_of_copy : (copying : Copying) (act : Act) (from : Node) (target : Option Node) → is_copy act ≡ true → goal_of_act copying.rules copying.with_bytes copying.moment act from target ≡ Some (copied_file copying.rules copying.with_bytes from (base_file copying.moment from target))
-goal_of_copy copying act.Copy from target e = refl
-goal_of_copy copying act.Make from target e = absurd (true≢false (sym e))
-goal_of_copy copying act.Touch from target e = absurd (true≢false (sym e))
-goal_of_copy copying act.Fix from target e = absurd (true≢false (sym e))
-goal_of_copy copying act.Purge from target e = absurd (true≢false (sym e))
-goal_of_copy copying act.Extra from target e = absurd (true≢false (sym e))
-goal_of_copy copying act.Mismatch from target e = absurd (true≢false (sym e))
-goal_of_copy copying (act.Keep reason) from target e = absurd (true≢false (sym e))
+goal_of_copy : (copying : Copying) (class : Class) (act : Act) (from : Node) (target : Option Node) → is_copy act ≡ true → goal_of_act copying.rules copying.with_bytes copying.moment class act from target ≡ option_map (copied_file copying.rules copying.with_bytes from) (copy_base class copying.moment from target)
+goal_of_copy copying class act.Copy from target e = refl
+goal_of_copy copying class _ from target e = absurd (true≢false (sym e))
 
 -- a file as a copy leaves it
 abbrev pub copied_on : Copying → Item → Node → Node → Node
@@ -125,7 +120,7 @@ copied_on copying item from begun =
 -- is the goal
 pub copied_goal : (copying : Copying) (item : Item) (source target : Option Node) (is : IsCopyable item source target) → is_copy item.act ≡ true → Some (copied_on copying item is.node (begun_file item.path target)) ≡ goal_under copying (Some item) source target
 copied_goal copying item source target is copied =
-    at target is.lonely is.beside ∙ sym (goal_of_copy copying item.act is.node target copied)
+    at target is.lonely is.beside ∙ sym (goal_of_copy copying item.class item.act is.node target copied)
     ∙ ap (λ (o : Option Node). goal_under copying (Some item) o target) (sym is.stands)
   where
     some_none : (x : Node) → Some x ≡ None → ⊥
@@ -149,12 +144,19 @@ copied_goal copying item source target is copied =
       props = copied_props copying.rules is.node.props (if b then fresh_props archive_alone copying.moment else there.props);
     }
 
-    at : (t : Option Node) → (item.class ≡ Lonely → t ≡ None) → (item.class ≢ Lonely → IsSomeAnd t (λ there. there.kind ≡ File)) → Some (copied_on copying item is.node (begun_file item.path t)) ≡ Some (copied_file copying.rules copying.with_bytes is.node (base_file copying.moment is.node t))
+    goal_on : Bool → Option Node → Option Node
+    goal_on b t = option_map (copied_file copying.rules copying.with_bytes is.node) (if b then Some (new_file copying.moment is.node) else t)
+
+    at : (t : Option Node) → (item.class ≡ Lonely → t ≡ None) → (item.class ≢ Lonely → IsSomeAnd t (λ there. there.kind ≡ File)) → Some (copied_on copying item is.node (begun_file item.path t)) ≡ option_map (copied_file copying.rules copying.with_bytes is.node) (copy_base item.class copying.moment is.node t)
     at None lonely beside =
+        let so = lonely_or (is_lonely item.class) refl beside in
         ap (λ (name : List ℕ). Some (lonely_copy name (is_lonely item.class))) is.spelled
-        ∙ ap (λ (b : Bool). Some (lonely_copy is.node.spelling b)) (lonely_or (is_lonely item.class) refl beside)
+        ∙ ap (λ (b : Bool). Some (lonely_copy is.node.spelling b)) so
+        ∙ sym (ap (λ (b : Bool). goal_on b None) so)
     at (Some there) lonely beside =
-        ap (λ (b : Bool). Some (copy_over there b)) (lonely_so item.class (λ same. some_none there (lonely same)))
+        let so = lonely_so item.class (λ same. some_none there (lonely same)) in
+        ap (λ (b : Bool). Some (copy_over there b)) so
+        ∙ sym (ap (λ (b : Bool). goal_on b (Some there)) so)
 
 pub filled_is : (copying : Copying) (item : Item) (source target begun filled : Option Node) (is : IsCopyable item source target) → begun ≡ Some (begun_file item.path target) → filled ≡ option_map (with_bytes_of copying.with_bytes (bytes_in source)) begun → filled ≡ Some (with_bytes_of copying.with_bytes is.node.bytes (begun_file item.path target))
 filled_is copying item source target begun filled is first second =

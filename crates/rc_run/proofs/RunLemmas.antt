@@ -1,5 +1,5 @@
 -- What the steps of a run say of it, by how it ends.
-use Rattle.std.proofs.Common.{◌≡◌, ℕ, zero, suc, ◌<◌, ◌≤◌, Bool, true, false, cond, List, [], ◌∷◌, ◌++◌, Some, None, length, get_or, map, inl, refl, sym, ap, subst, ◌∙◌, arith}
+use Rattle.std.proofs.Common.{◌≡◌, ℕ, zero, suc, ◌<◌, ◌≤◌, Bool, true, false, cond, List, [], ◌∷◌, ◌++◌, Option, Some, None, length, get_or, map, inl, refl, sym, ap, subst, ◌∙◌, arith}
 use Rattle.std.proofs.Math.Seq.{take-length}
 use Rattle.std.proofs.lemmas.Bool.{true≢false}
 use Rattle.std.proofs.lemmas.List.{append-nil}
@@ -7,21 +7,20 @@ use Rattle.std.specs.Prelude.{T, All, if◌then◌else◌}
 use Rattle.std.specs.FinMap.{get}
 use Rattle.std.specs.FinMap.Entries.{is_sorted}
 use Rattle.rc_tree.specs.Path.{key_of, key_cmp}
-use Rattle.rc_tree.specs.Tree.{Tree}
+use Rattle.rc_tree.specs.Tree.{IsTree, Node, Tree}
 use Rattle.rc_tree.proofs.Keys.{key_itself, below_apart}
-use Rattle.rc_class.specs.declared.decision.Act.{Act}
-use Rattle.rc_class.specs.declared.decision.Act.TheVariants.{Copy, Make, Touch, Fix, Purge, Extra, Mismatch, Keep}
+use Rattle.rc_class.specs.declared.decision.After.TheVariants.{Nothing}
 use Rattle.rc_class.specs.declared.item.Item.{Item}
 use Rattle.rc_class.specs.declared.plan.Plan.{Plan}
-use Rattle.rc_class.specs.Goal.{is_left, source_goal, target_goal}
+use Rattle.rc_class.specs.Goal.{released, source_goal, target_goal}
 use Rattle.rc_class.specs.Items.{keyed, item_at}
+use Rattle.rc_class.specs.Sides.{IsDecidedIn}
 use Rattle.rc_class.specs.Start.{IsPlanOf}
-use Rattle.rc_class.specs.Units.{is_copy}
 use Rattle.rc_job.specs.declared.job.Job.{Job}
 use Rattle.rc_filter.specs.Acts.{rules_of}
-use Rattle.rc_filter.specs.Decided.{IsCopyable, decided_at}
-use Rattle.rc_plan.specs.Plan.{start_in}
-use Rattle.rc_plan.specs.Roots.{are_built}
+use Rattle.rc_filter.specs.Decided.{decided_at, start_of}
+use Rattle.rc_plan.specs.Plan.{AreCopiesOrLeft, start_in}
+use Rattle.rc_plan.specs.Roots.{AreTrees, are_built}
 use Rattle.rc_report.specs.Report.{report_of}
 use Rattle.rc_volume.specs.Streams.{AppendsFront}
 use Rattle.rc_volume.specs.Site.{Told}
@@ -29,11 +28,11 @@ use Rattle.rc_run.specs.declared.copying.Copying.{Copying}
 use Rattle.rc_run.specs.declared.outcome.Outcome.{Outcome}
 use Rattle.rc_run.specs.declared.outcome.Outcome.TheVariants.{NotYet}
 use Rattle.rc_run.specs.declared.outcome.Unbuilt.TheVariants as unbuilt
-use Rattle.rc_run.specs.Answers.{Answers, Leaves, Sends, copying_of, is_empty, site_refusal}
-use Rattle.rc_run.specs.Copying.{IsDoableIn, after_items}
+use Rattle.rc_run.specs.Answers.{Answers, RunLeaves, Sends, copying_of, is_empty, site_refusal}
+use Rattle.rc_run.specs.Copying.{AreBetween, IsDoableIn, after_items}
 use Rattle.rc_run.specs.Goal.{IsMirrored, items_at}
-use Rattle.rc_run.specs.Outcome.{Ending, EndsAt, at_copies, at_end, at_limits, at_record, at_words, ending, failed, finished, first_step, last_step, out_of_memory, refused, unreported}
-use Rattle.rc_run.proofs.ItemLemmas.{below_get, first_so, second_so, is_so}
+use Rattle.rc_run.specs.Outcome.{Ending, EndsAt, at_copies, at_end, at_limits, at_record, at_report, at_words, ending, failed, finished, first_step, last_step, out_of_memory, refused, unreported}
+use Rattle.rc_run.proofs.ItemLemmas.{below_get, found_item, first_so, second_so, is_so}
 
 -- What is written
 
@@ -102,7 +101,7 @@ trees_refusal job told o same none other =
     ∙ ap (λ (x : Outcome). Some x) (sym same)
 
 -- an answer that comes before the copies leaves all as it was
-pub leaves_all : (job : Job) (moment : ℕ) (start end : Told) (o : Outcome) (from to : ℕ) (holds : Type 0) → EndsAt from to holds (ending o) → to < at_copies → end ≡ start → Leaves job moment start end o
+pub leaves_all : (job : Job) (moment : ℕ) (start end : Told) (o : Outcome) (from to : ℕ) (holds : Type 0) → EndsAt from to holds (ending o) → to < at_copies → end ≡ start → RunLeaves job moment start end o
 leaves_all job moment start end o from to holds h early same = record {
   mirrored = λ l. absurd (omega (arith, l, early, EndsAt-first from to holds (ending o) h));
   unchanged = λ _. same;
@@ -137,35 +136,52 @@ found_own (item ∷ items) (suc k) d sorted l =
     (below_apart (key_of item.path) (key_of (get_or items k d).path) (below_get (key_of item.path) items k d (first_so _ _ sorted) (omega (arith, l))))
     ∙ found_own items k d (second_so _ _ sorted) (omega (arith, l))
 
-copy_so : (act : Act) → is_copy act ≡ true → act ≡ Copy
-copy_so Copy e = refl
-copy_so Make e = absurd (true≢false (sym e))
-copy_so Touch e = absurd (true≢false (sym e))
-copy_so Fix e = absurd (true≢false (sym e))
-copy_so Purge e = absurd (true≢false (sym e))
-copy_so Extra e = absurd (true≢false (sym e))
-copy_so Mismatch e = absurd (true≢false (sym e))
-copy_so (Keep reason) e = absurd (true≢false (sym e))
+-- the law of decided items
+abbrev Law : Type 0
+Law = (job : Job) (source target : Tree) (moment : ℕ) (key : List (List ℕ)) (item : Item) → IsTree source → IsTree target → decided_at job source target moment key ≡ Some item → IsDecidedIn (start_of job source target) moment key item
 
 -- each can be done on the trees of which the plan is
-pub doable : (job : Job) (told : Told) (plan : Plan) → ((job : Job) (source target : Tree) (moment : ℕ) (key : List (List ℕ)) (item : Item) → decided_at job source target moment key ≡ Some item → item.act ≡ Copy → IsCopyable item (get source key) (get target key)) → ((job : Job) (source target : Tree) (moment : ℕ) (key : List (List ℕ)) (item : Item) → decided_at job source target moment key ≡ Some item → is_copy item.act ≡ false → is_left item.act ≡ true) → IsPlanOf (start_in job told) plan → All (IsDoableIn told.source told.target) plan.items
-doable job told plan copies left is k d l =
+pub doable : (job : Job) (told : Told) (plan : Plan) → Law → AreTrees told → AreCopiesOrLeft plan.items → IsPlanOf (start_in job told) plan → All (IsDoableIn told.source told.target) plan.items
+doable job told plan law trees left is k d l =
     let item = get_or plan.items k d in
     let key = key_of item.path in
     let decided : decided_at job told.source told.target plan.moment key ≡ Some item = sym (is.items key) ∙ found_own plan.items k d (is_so _ is.rising) l in
-    record {
-      copies = λ copied. copies job told.source told.target plan.moment key item decided (copy_so item.act copied);
-      leaves = λ other. left job told.source told.target plan.moment key item decided other;
-    }
+    let says = law job told.source told.target plan.moment key item trees.source trees.target decided in
+    record { beside = says.beside; allowed = says.allowed; left = left k d l }
+
+-- nothing becomes of the source's entries
+found_stays : (items : List Item) (key : List (List ℕ)) (source : Option Node) → AreCopiesOrLeft items → source_goal (item_at items key) source ≡ source
+found_stays items key None left = refl
+found_stays items key (Some node) left = by (item_at items key) refl
+  where
+    by : (found : Option Item) → item_at items key ≡ found → source_goal found (Some node) ≡ Some node
+    by None e = refl
+    by (Some item) e =
+        let at = found_item items key item e in
+        ap (λ after. released after node) (subst (λ (i : Item). i.after ≡ Nothing) at.2 (left at.0 item at.1).stays)
 
 -- What stands in the end
 
 -- the copies of a plan's items reach the goals
-pub mirrored : (job : Job) (plan : Plan) (copying : Copying) (start now : Told) → copying ≡ copying_of job plan.moment → IsPlanOf (start_in job start) plan → ((job : Job) (source target : Tree) (moment : ℕ) (key : List (List ℕ)) → source_goal (decided_at job source target moment key) (get source key) ≡ get source key) → ((key : List (List ℕ)) → get now.target key ≡ after_items copying plan.items start.source start.target key) → now.source ≡ start.source → now.notes ≡ start.notes → start.notes ≡ [] → IsMirrored (start_in job start) plan.moment now
-mirrored job plan copying start now same is stays copied source notes none = record {
+pub mirrored : (job : Job) (plan : Plan) (copying : Copying) (start now : Told) → copying ≡ copying_of job plan.moment → IsPlanOf (start_in job start) plan → AreCopiesOrLeft plan.items → ((key : List (List ℕ)) → get now.target key ≡ after_items copying plan.items start.source start.target key) → now.source ≡ start.source → now.notes ≡ start.notes → start.notes ≡ [] → IsMirrored (start_in job start) plan.moment now
+mirrored job plan copying start now same is left copied source notes none = record {
   target = λ key.
       copied key ∙ ap (λ (x : Copying). after_items x plan.items start.source start.target key) same
       ∙ ap (λ o. target_goal (rules_of job) job.copy.data_bytes plan.moment o (get start.source key) (get start.target key)) (is.items key);
-  source = λ key. ap (λ (t : Tree). get t key) source ∙ sym (stays job start.source start.target plan.moment key);
+  source = λ key.
+      ap (λ (t : Tree). get t key) source ∙ sym (found_stays plan.items key (get start.source key) left)
+      ∙ ap (λ o. source_goal o (get start.source key)) (is.items key);
   notes = notes ∙ none;
+}
+
+-- and so leave what a run that copied all leaves
+pub leaves_done : (job : Job) (plan : Plan) (copying : Copying) (items : List Item) (start now : Told) (o : Outcome) → copying ≡ copying_of job plan.moment → items ≡ plan.items → plan.items ≡ items_at job start plan.moment → IsMirrored (start_in job start) plan.moment now → AreBetween copying items start now.target → now.source ≡ start.source → now.notes ≡ start.notes → EndsAt at_report at_end ⊥ (ending o) → RunLeaves job plan.moment start now o
+leaves_done job plan copying items start now o same are planned done between source notes ends = record {
+  mirrored = λ _. done;
+  unchanged = λ early. absurd (let last = EndsAt-last at_report at_end ⊥ (ending o) ends in omega (arith, early, last));
+  between =
+      subst (λ (c : Copying). AreBetween c (items_at job start plan.moment) start now.target) same
+      (subst (λ (i : List Item). AreBetween copying i start now.target) (are ∙ planned) between);
+  source = source;
+  notes = notes;
 }

@@ -58,7 +58,7 @@ abbrev pub copying_of : Job → ℕ → Copying
 copying_of job moment = record { rules = rules_of job; with_bytes = job.copy.data_bytes; moment = moment }
 
 -- what a run leaves of a site that tells, whatever it answers
-pub record Leaves (job : Job) (moment : ℕ) (start end : Told) (outcome : Outcome) : Type 0 where
+pub record RunLeaves (job : Job) (moment : ℕ) (start end : Told) (outcome : Outcome) : Type 0 where
   -- behind the copies both trees are the goals
   pub mirrored : at_report ≤ first_step (ending outcome) → IsMirrored (start_in job start) moment end
   -- before them all is as it was

@@ -1,18 +1,19 @@
 -- What the steps of copying do to the target, when they are done and when they end in a fault.
 use Rattle.std.specs.Prelude.{◌≡◌, ◌⊎◌, ℕ, ◌≤◌, Bool, true, false, max, All, List, ◌++◌, Option, Some, None, option_map, length, Result, Ok, Err, if◌then◌else◌}
 use Rattle.std.specs.FinMap.{get}
+use Rattle.std.specs.List.{list_any}
 use Rattle.rc_tree.specs.declared.attr.Kind.TheVariants.{File}
 use Rattle.rc_tree.specs.declared.props.Props.{Props}
 use Rattle.rc_tree.specs.Path.{key_of, last_name}
 use Rattle.rc_tree.specs.Tree.{Node, Tree}
-use Rattle.rc_class.specs.declared.class.Class.{Class}
-use Rattle.rc_class.specs.declared.class.Class.TheVariants.{Lonely}
 use Rattle.rc_class.specs.declared.item.Item.{Item}
-use Rattle.rc_class.specs.Goal.{archive_alone, copied_props, fresh_props, is_left, picked, target_goal}
+use Rattle.rc_class.specs.Class.{is_lonely}
+use Rattle.rc_class.specs.Goal.{archive_alone, copied_props, fresh_props, picked, target_goal}
 use Rattle.rc_class.specs.Items.{are_rising, item_at}
+use Rattle.rc_class.specs.Sides.{Beside, may_act}
 use Rattle.rc_class.specs.Units.{is_copy}
-use Rattle.rc_filter.specs.Decided.{IsCopyable}
-use Rattle.rc_plan.specs.Plan.{AreInRoot, AreSmallCopies}
+use Rattle.rc_plan.specs.Plan.{AreInRoot, AreSmallCopies, IsCopyOrLeft}
+use Rattle.rc_volume.specs.declared.site.Part.TheVariants as part
 use Rattle.rc_volume.specs.declared.site.Side.{Side}
 use Rattle.rc_volume.specs.declared.site.Side.TheVariants.{Target}
 use Rattle.rc_volume.specs.declared.site.SiteErr.{SiteErr}
@@ -20,6 +21,8 @@ use Rattle.rc_volume.specs.declared.site.SiteErr.TheVariants as site_err
 use Rattle.rc_volume.specs.declared.want.Want.{Want}
 use Rattle.rc_volume.specs.Faults.{Cause, Counts, free, on, part_for}
 use Rattle.rc_volume.specs.Frames.{ChangesAt}
+use Rattle.rc_volume.specs.Images.{IsOnlyTree}
+use Rattle.rc_volume.specs.Log.{LogsOn}
 use Rattle.rc_volume.specs.Site.{Change, Becomes, Comes, Maybe, Told, Turns, Seen, ReadsFrom, fresh_file, node_at, with_props}
 use Rattle.rc_run.specs.declared.copying.CopyErr.{CopyErr}
 use Rattle.rc_run.specs.declared.copying.CopyErr.TheVariants as copy_err
@@ -34,11 +37,6 @@ goal_under copying item source target = target_goal copying.rules copying.with_b
 -- what it has at a key once these items are done
 abbrev pub after_items : Copying → List Item → Tree → Tree → List (List ℕ) → Option Node
 after_items copying items source target key = goal_under copying (item_at items key) (get source key) (get target key)
-
--- whether the target lacks what the source has
-abbrev pub is_lonely : Class → Bool
-is_lonely Lonely = true
-is_lonely _ = false
 
 -- the properties of a copy of one file over another, or of a fresh one
 abbrev pub finished_props : Copying → Item → Node → Node → Props
@@ -55,8 +53,9 @@ pub record AreRunnable (with_bytes : Bool) (items : List Item) : Type 0 where
 
 -- the two sides have what an item says: a file that can be copied, or anything where all is left as it is
 pub record IsDoable (item : Item) (source target : Option Node) : Type 0 where
-  pub copies : is_copy item.act ≡ true → IsCopyable item source target
-  pub leaves : is_copy item.act ≡ false → is_left item.act ≡ true
+  pub beside : Beside item.class item source target
+  pub allowed : may_act item.class item.facts.kind item.act ≡ true
+  pub left : IsCopyOrLeft item
 
 -- at its key
 abbrev pub IsDoableIn : Tree → Tree → Item → Type 0
@@ -176,8 +175,17 @@ Finishes (Err e) copying item from = Maybe (Becomes (λ node. with_props (finish
 pub record CopiesFiles (tells : Bool) (cause : Cause) (old new : Seen) : Type 0 where
   pub source : tells ≡ true → new.told.source ≡ old.told.source
   pub notes : tells ≡ true → new.told.notes ≡ old.told.notes
+  pub log : tells ≡ true → LogsOn part.Target old.log new.log
   pub bound : new.bound ≡ old.bound
   pub counts : Counts cause old.faults new.faults
+
+-- whether an item copies a file
+abbrev pub copies_any : List Item → Bool
+copies_any items = list_any (λ item. is_copy item.act) items
+
+-- what reads of the target is all that a stop may leave of it, where an item copied a file
+abbrev pub IsDurable : List Item → Seen → Type 0
+IsDurable items seen = copies_any items ≡ true → IsOnlyTree Target seen.log seen.told.target
 
 -- at Ok these are added, and else perhaps
 abbrev pub AddsWants : {T E : Type 0} → Result T E → List Want → List Want → List Want → Type 0

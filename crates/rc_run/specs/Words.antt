@@ -3,9 +3,9 @@ use Rattle.std.specs.Prelude.{ℕ, Bool, false, not, ◌&&◌, ◌||◌, List, [
 use Rattle.std.specs.Char.{is_ascii_alphanumeric, eq_ignore_ascii_case}
 use Rattle.std.specs.List.{list_any, list_all}
 use Rattle.std.specs.Str.{str_eq_ignore_ascii_case}
-use Rattle.rc_job.specs.declared.job.CopyFlags.{CopyFlags}
+use Rattle.rc_job.specs.declared.flags.CopyFlags.{CopyFlags}
 use Rattle.rc_job.specs.declared.job.Job.{Job}
-use Rattle.rc_job.specs.Job.{dat}
+use Rattle.rc_job.specs.Job.{dat, default_job}
 use Rattle.rc_tree.specs.declared.entry.Scan.TheVariants as scan
 use Rattle.rc_volume.specs.declared.binding.Binding.{Binding}
 use Rattle.rc_run.specs.declared.outcome.Outcome.{Outcome}
@@ -105,7 +105,7 @@ copy_of words =
 
 -- the job that the words behind the roots ask for
 abbrev pub job_by : List (List ℕ) → Job
-job_by words = record {
+job_by words = record default_job {
   copy = copy_of words;
   fft = has (codes "/FFT") words;
   dst = has (codes "/DST") words;

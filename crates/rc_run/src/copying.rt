@@ -5,12 +5,13 @@ ghost use Rattle.std.specs.FinMap.{get};
 ghost use Rattle.rc_tree.specs.Path.{key_of};
 ghost use Rattle.rc_tree.specs.Tree.{Node};
 ghost use Rattle.rc_class.specs.Units.{is_copy};
-ghost use Rattle.rc_filter.specs.Decided.{is_in_root, IsCopyable};
+ghost use Rattle.rc_plan.specs.Roots.{is_in_root};
+ghost use Rattle.rc_volume.specs.declared.site.Part.{Part};
 ghost use Rattle.rc_volume.specs.declared.site.Side.TheVariants.{Source, Target};
-ghost use Rattle.rc_volume.specs.Frames.{ChangesSide, Looks, MakesReader, opened_by};
+ghost use Rattle.rc_volume.specs.Frames.{ChangesSide, MakesReader, Syncs, opened_by};
 ghost use Rattle.rc_volume.specs.Reading.{Opens};
 ghost use Rattle.rc_volume.specs.Site.{IsWithin, ReadsFrom, node_at};
-ghost use Rattle.rc_run.specs.Copying.{copy_cause, fault_of, AreBetween, AreDoable, AreDone, AreRunnable, ChangesTarget, AddsWants, Copies, CopiesFiles, IsDoableIn, OnTarget, ReadsSource};
+ghost use Rattle.rc_run.specs.Copying.{copy_cause, fault_of, AreBetween, IsDurable, AreDoable, AreDone, AreRunnable, ChangesTarget, AddsWants, Copies, CopiesFiles, IsDoableIn, OnTarget, ReadsSource};
 ghost use Rattle.rc_run.specs.Goal.{wants_of};
 ghost use Rattle.rc_run.specs.Reading.{is_read, whole_file, whole_files};
 
@@ -58,6 +59,7 @@ pub(crate) fn copy_items<S: Site>(
         (AreDone copying.now items.now (S.view site.old).told (S.view site.new).told) }
     ensures between { S.tells ≡ true →
         AreBetween copying.now items.now (S.view site.old).told (S.view site.new).told.target }
+    ensures durable { S.tells ≡ true → OnOk result (IsDurable items.now (S.view site.new)) }
     ensures opened { AddsWants result (wants_of 0 copying.now.with_bytes items.now)
         (S.view site.old).opened (S.view site.new).opened }
 {
@@ -99,6 +101,7 @@ fn copy_durably<S: Site>(
         (AreDone copying.now items.now (S.view site.old).told (S.view site.new).told) }
     ensures between { S.tells ≡ true →
         AreBetween copying.now items.now (S.view site.old).told (S.view site.new).told.target }
+    ensures durable { S.tells ≡ true → OnOk result (IsDurable items.now (S.view site.new)) }
 {
     match copy_each(alloc, site, reader, copying, items, buf) {
         Ok(()) => sync(alloc, site, items),
@@ -254,9 +257,8 @@ fn copy_file<S: Site>(
         Opens (S.Reader.wants reader.now) (key_of item.now.path) 0 item.now.facts.size }
     requires told { S.tells ≡ true → ReadsSource S.Reader.tells (S.Reader.wants reader.now)
         (S.Reader.bytes reader.now) (S.view site.old) }
-    requires copyable { S.tells ≡ true → let key = key_of item.now.path in
-        let start = (S.view site.old).told in
-        IsCopyable item.now (get start.source key) (get start.target key) }
+    requires doable { S.tells ≡ true → let start = (S.view site.old).told in
+        IsDoableIn start.source start.target item.now }
 
     ensures frame { ChangesTarget S.tells (key_of item.now.path) (copy_cause result)
         (S.view site.old) (S.view site.new) }
@@ -276,7 +278,9 @@ fn copy_file<S: Site>(
 
 // Makes the target durable where a file was copied.
 fn sync<S: Site>(alloc: Global, site: &mut S, items: &[Item]) -> Result<(), CopyErr>
-    ensures { Looks S.tells (copy_cause result) (S.view site.old) (S.view site.new) }
+    ensures frame { Syncs S.tells Part.Target (copy_cause result)
+        (S.view site.old) (S.view site.new) }
+    ensures durable { S.tells ≡ true → OnOk result (IsDurable items.now (S.view site.new)) }
 {
     if !items.iter().any(|item| item.act.is_copy()) {
         return Ok(());

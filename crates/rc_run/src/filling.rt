@@ -4,7 +4,7 @@ ghost use Rattle.std.specs.Prelude.{◌≡◌, ◌+◌, ◌≤◌, ◌<◌, ◌^
 ghost use Rattle.std.specs.FinMap.{get};
 ghost use Rattle.rc_tree.specs.Path.{key_of};
 ghost use Rattle.rc_class.specs.Units.{is_copy};
-ghost use Rattle.rc_filter.specs.Decided.{is_in_root};
+ghost use Rattle.rc_plan.specs.Roots.{is_in_root};
 ghost use Rattle.rc_volume.specs.Frames.{Looks};
 ghost use Rattle.rc_volume.specs.Reading.{Opens, part_of};
 ghost use Rattle.rc_volume.specs.Site.{HasFile, bytes_in, resized, written_at};

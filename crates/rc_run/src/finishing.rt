@@ -4,15 +4,16 @@ ghost use Rattle.std.specs.Prelude.{◌≡◌, ⊤, true, Some, IfOk, option_map
 ghost use Rattle.std.specs.FinMap.{get};
 ghost use Rattle.rc_tree.specs.Path.{key_of};
 ghost use Rattle.rc_tree.specs.Tree.{Node};
+ghost use Rattle.rc_class.specs.Class.{is_lonely};
 ghost use Rattle.rc_class.specs.Goal.{copied_props};
-ghost use Rattle.rc_filter.specs.Decided.{is_in_root};
+ghost use Rattle.rc_plan.specs.Roots.{is_in_root};
 ghost use Rattle.rc_volume.specs.Frames.{Looks};
 ghost use Rattle.rc_volume.specs.Site.{HasFile, node_at};
-ghost use Rattle.rc_run.specs.Copying.{copy_cause, is_lonely, ChangesTarget, Finishes, GivesProps, OnTarget};
+ghost use Rattle.rc_run.specs.Copying.{copy_cause, ChangesTarget, Finishes, GivesProps, OnTarget};
 
 use crate::copying::{CopyErr, Copying, fault};
 use rc_class::{Class, Item, Rules, copied_props, fresh_props};
-use rc_tree::{Path, Props};
+use rc_tree::{Kind, Path, Props};
 use rc_volume::{Side, Site};
 use std::alloc::Global;
 
@@ -60,7 +61,7 @@ fn finish_from<S: Site>(
         (S.view site.old) (S.view site.new) }
 {
     if is_lonely(item.class) {
-        let old = fresh_props(alloc, copying.moment);
+        let old = fresh_props(alloc, Kind::File, copying.moment);
         return set_copied_props(alloc, site, copying.rules, &item.path, source, &old);
     }
     match props_at(alloc, site, Side::Target, &item.path) {
@@ -70,7 +71,7 @@ fn finish_from<S: Site>(
     }
 }
 
-// Whether the target lacks what the source has.
+// Whether the target had nothing when all was decided: then the copy is new, whatever stands there by now.
 fn is_lonely(class: Class) -> bool
     ensures { result ≡ is_lonely class }
 {

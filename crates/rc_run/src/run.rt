@@ -3,14 +3,15 @@
 ghost use Rattle.std.specs.Prelude.{◌≡◌, ◌⊎◌, ◌+◌, ◌<◌, ◌≤◌, ◌++◌, ◌∷◌, ℕ, true, false, [], IfOk, IfErr, OnOk, min};
 ghost use Rattle.rc_class.specs.Start.{IsPlanOf};
 ghost use Rattle.rc_plan.specs.Plan.{start_in, IsMadeFor};
-ghost use Rattle.rc_plan.specs.Roots.{are_built};
+ghost use Rattle.rc_plan.specs.Roots.{are_built, AreTrees};
 ghost use Rattle.rc_report.specs.Report.{bits_of, report_of, totals_of};
 ghost use Rattle.rc_volume.specs.declared.site.Part.{Part};
 ghost use Rattle.rc_volume.specs.Faults.{free, last_count, RoseBy};
 ghost use Rattle.rc_volume.specs.Frames.{Binds, IsBound, Looks};
+ghost use Rattle.rc_volume.specs.Log.{LogsOn};
 ghost use Rattle.rc_volume.specs.Streams.{AppendsFront};
-ghost use Rattle.rc_run.specs.Answers.{is_empty, read_by, start_refusal, Answers, AreBitsOf, IsExpected, IsNamed, IsOpened, IsSilentBefore, Leaves, Sends};
-ghost use Rattle.rc_run.specs.Copying.{CopiesFiles};
+ghost use Rattle.rc_run.specs.Answers.{is_empty, read_by, start_refusal, Answers, AreBitsOf, IsExpected, IsNamed, IsOpened, IsSilentBefore, RunLeaves, Sends};
+ghost use Rattle.rc_run.specs.Copying.{CopiesFiles, IsDurable};
 ghost use Rattle.rc_run.specs.Goal.{items_at, wants_of};
 ghost use Rattle.rc_run.specs.Outcome.{at_copies, at_end, at_limits, at_listing, at_record, at_report, at_roots, cause_of, ending, finished, first_step, last_step, run_cause, Causes, CausesInSink, EndsAt, IfDone, IsOrNoMemory};
 ghost use Rattle.rc_run.specs.Words.{asked, binding_of, texts, IfAccepted, IfRefused};
@@ -19,10 +20,7 @@ use crate::copying::{CopyErr, Copying, copy_items};
 use crate::words::{Request, read_words};
 use crate::{Outcome, Unbuilt};
 use rc_class::Plan;
-use rc_filter::{
-    copies_are_of_files, files_are_copied_or_left, plans_have_the_planned_items, rules,
-    sources_stay,
-};
+use rc_filter::{decided_items, plans_have_the_planned_items, rules};
 use rc_job::Job;
 use rc_plan::{PlanErr, make_plan};
 use rc_report::{bits, count_totals, report_to};
@@ -70,8 +68,16 @@ pub fn mirror_alone<S: Site, J: JobStore, K: Sink, C: Clock>(
 
     // What becomes of the site.
     ensures leaves { S.tells ≡ true → IfAccepted (texts words.now) (λ request.
-        Leaves request.job (C.last clock.new)
+        RunLeaves request.job (C.last clock.new)
         (S.view site).told (S.view result.site).told result.outcome) }
+    // Where an item copied a file, a stop behind the copies leaves of the target what reads, and nothing else. Nothing of
+    // the source and the record is touched.
+    ensures durable { S.tells ≡ true → IfAccepted (texts words.now) (λ request.
+        at_report ≤ first_step (ending result.outcome) →
+        IsDurable (items_at request.job (S.view site).told (C.last clock.new))
+        (S.view result.site)) }
+    ensures others { S.tells ≡ true →
+        LogsOn Part.Target (S.view site).log (S.view result.site).log }
     ensures opened { S.tells ≡ true → IfAccepted (texts words.now) (λ request.
         IsOpened result.outcome (read_by request.job (C.last clock.new) (S.view site).told)
         (S.view site).opened (S.view result.site).opened) }
@@ -123,8 +129,13 @@ fn run<S: Site, K: Sink, C: Clock>(
     ensures answers { Answers S.tells request.now.job (S.view site.old).told result }
     ensures cause { Causes result (S.view site.old) (S.view site.new) }
     ensures sink_cause { CausesInSink result (K.faults sink.old) (K.faults sink.new) }
-    ensures leaves { S.tells ≡ true → Leaves request.now.job (C.last clock.new)
+    ensures leaves { S.tells ≡ true → RunLeaves request.now.job (C.last clock.new)
         (S.view site.old).told (S.view site.new).told result }
+    ensures durable { S.tells ≡ true → at_report ≤ first_step (ending result) →
+        IsDurable (items_at request.now.job (S.view site.old).told (C.last clock.new))
+        (S.view site.new) }
+    ensures others { S.tells ≡ true →
+        LogsOn Part.Target (S.view site.old).log (S.view site.new).log }
     ensures opened { S.tells ≡ true → IsOpened result
         (read_by request.now.job (C.last clock.new) (S.view site.old).told)
         (S.view site.old).opened (S.view site.new).opened }
@@ -242,6 +253,7 @@ fn plan<S: Site, C: Clock>(
     ensures frame { Looks S.tells (run_cause result) (S.view site.old) (S.view site.new) }
     ensures plan { S.tells ≡ true →
         IfOk result (IsPlanOf (start_in job.now (S.view site.old).told)) }
+    ensures trees { S.tells ≡ true → OnOk result (AreTrees (S.view site.old).told) }
     ensures built { S.tells ≡ true → OnOk result (are_built job.now (S.view site.old).told ≡ true) }
     ensures ends { IfErr result (λ e. EndsAt at_listing at_limits
         ((e ≡ Outcome.NotYet Unbuilt.Trees)
@@ -267,6 +279,7 @@ fn carry_out<S: Site, K: Sink>(
     plan: &Plan,
 ) -> Outcome
     requires plan { S.tells ≡ true → IsPlanOf (start_in job.now (S.view site.old).told) plan.now }
+    requires trees { S.tells ≡ true → AreTrees (S.view site.old).told }
     requires made { IsMadeFor job.now plan.now.moment plan.now }
     requires no_record { S.tells ≡ true → (S.view site.old).told.notes ≡ [] }
 
@@ -274,8 +287,10 @@ fn carry_out<S: Site, K: Sink>(
         (S.view site.old) (S.view site.new) }
     ensures sink_cause { CausesInSink result (K.faults sink.old) (K.faults sink.new) }
     ensures ends { EndsAt at_copies at_end ⊥ (ending result) }
-    ensures leaves { S.tells ≡ true → Leaves job.now plan.now.moment
+    ensures leaves { S.tells ≡ true → RunLeaves job.now plan.now.moment
         (S.view site.old).told (S.view site.new).told result }
+    ensures durable { S.tells ≡ true → at_report ≤ first_step (ending result) →
+        IsDurable plan.now.items (S.view site.new) }
     ensures opened { IsOpened result (wants_of 0 job.now.copy.data_bytes plan.now.items)
         (S.view site.old).opened (S.view site.new).opened }
     ensures items { S.tells ≡ true →
@@ -297,9 +312,7 @@ fn carry_out<S: Site, K: Sink>(
         with_bytes: plan.with_bytes,
         moment: plan.moment,
     };
-    copies_are_of_files();
-    files_are_copied_or_left();
-    sources_stay();
+    decided_items();
     plans_have_the_planned_items();
     match copy_items(alloc, site, &copying, plan.items.items()) {
         Ok(()) => write_report(alloc, sink, plan),

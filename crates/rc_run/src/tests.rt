@@ -1,10 +1,10 @@
 //! Runs over sites in memory, and over such on which a call fails.
 
-mod copies;
 mod faults;
 mod outcomes;
 mod plans;
 mod refusals;
+mod wants;
 
 use crate::{Ended, mirror_alone};
 use rc_fixture::Row;

@@ -1,6 +1,6 @@
 //! The words of a run: what they ask for, or why they are refused.
 
-ghost use Rattle.std.specs.Prelude.{◌≡◌, ◌⊎◌, ◌<◌, ◌∷◌, [], IfErr, chars, is_some, map, option_map, string_bytes};
+ghost use Rattle.std.specs.Prelude.{◌≡◌, ◌⊎◌, ◌<◌, ◌∷◌, [], IfErr, IfOk, chars, is_some, map, option_map, string_bytes};
 ghost use Rattle.std.specs.List.{list_all, list_any};
 ghost use Rattle.std.specs.Str.{str_eq_ignore_ascii_case};
 ghost use Rattle.rc_run.specs.Outcome.{at_roots, ending, first_step};
@@ -8,7 +8,7 @@ ghost use Rattle.rc_run.specs.Words.{is_request, are_letters, are_roots, asked, 
 
 use crate::{Outcome, Unbuilt};
 use rc_job::{CopyFlags, Job};
-use rc_tree::Text;
+use rc_tree::{NoMemory, Text};
 use std::alloc::Global;
 
 // The switches without a value that say nothing of copy flags.
@@ -66,11 +66,15 @@ fn read_behind(
             what: Unbuilt::Words,
         });
     }
-    match (Text::of(alloc, source), Text::of(alloc, target)) {
-        (Ok(source), Ok(target)) => Ok(Request {
+    match (
+        Text::of(alloc, source),
+        Text::of(alloc, target),
+        job_by(alloc, switches),
+    ) {
+        (Ok(source), Ok(target), Ok(job)) => Ok(Request {
             source,
             target,
-            job: job_by(switches),
+            job,
         }),
         _ => Err(Outcome::NoMemory),
     }
@@ -84,10 +88,10 @@ fn is_request(source: &str, target: &str, switches: &[String]) -> bool
 }
 
 // The job that the words behind the roots ask for.
-fn job_by(words: &[String]) -> Job
-    ensures { result ≡ job_by (map (λ w. string_bytes w) words.now) }
+fn job_by(alloc: Global, words: &[String]) -> Result<Job, NoMemory>
+    ensures { IfOk result (λ job. job ≡ job_by (map (λ w. string_bytes w) words.now)) }
 {
-    Job {
+    Ok(Job {
         copy: copy_of(words),
         fft: has("/FFT", words),
         dst: has("/DST", words),
@@ -98,7 +102,8 @@ fn job_by(words: &[String]) -> Job
         xx: has("/XX", words),
         with_same: has("/IS", words),
         with_tweaked: has("/IT", words),
-    }
+        ..Job::new(alloc)?
+    })
 }
 
 // Whether a switch stands among words.

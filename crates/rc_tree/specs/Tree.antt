@@ -1,5 +1,5 @@
 -- A tree as a finite map from keys to nodes.
-use Rattle.std.specs.Prelude.{◌≡◌, ◌≢◌, ℕ, ◌≤◌, List, [], ◌++◌, ◌∷◌, None, length, IfSome}
+use Rattle.std.specs.Prelude.{◌≡◌, ◌≢◌, ℕ, ◌≤◌, List, [], ◌++◌, ◌∷◌, Option, None, option_map, length, IfSome}
 use Rattle.std.specs.FinMap.{FinMap, get}
 use Rattle.rc_tree.specs.declared.attr.Kind.{Kind}
 use Rattle.rc_tree.specs.declared.attr.Kind.TheVariants.{Dir}
@@ -16,6 +16,10 @@ pub record Node : Type 0 where
 
 abbrev pub Tree : Type 0
 Tree = FinMap key_cmp Node
+
+-- the kind of what stands there
+abbrev pub kind_at : Tree → List (List ℕ) → Option Kind
+kind_at tree key = option_map (λ node. node.kind) (get tree key)
 
 -- the root, or a key at which a directory stands
 abbrev pub IsDirectory : Tree → List (List ℕ) → Type 0

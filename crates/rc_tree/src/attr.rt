@@ -1,3 +1,5 @@
+//! The attributes of an entry, and how they are stored.
+
 ghost use Rattle.std.specs.Prelude.{◌≡◌, ◌≢◌, ◌<◌, ◌^◌, IfSome, IfNone};
 ghost use Rattle.rc_tree.specs.declared.attr.Attr.{Attr};
 ghost use Rattle.rc_tree.specs.Attr.{attribute_bits, stored_of, compared};

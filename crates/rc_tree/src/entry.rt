@@ -1,3 +1,5 @@
+//! What a listing shows of an entry.
+
 ghost use Rattle.std.specs.Prelude.{◌≡◌, IfOk};
 
 use crate::{Kind, Name, NoMemory, Props};

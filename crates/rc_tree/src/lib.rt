@@ -8,6 +8,7 @@
 
 mod attr;
 mod entry;
+mod laws;
 mod memory;
 mod moment;
 mod name;
@@ -20,6 +21,7 @@ mod text;
 
 pub use attr::{Attr, Kind};
 pub use entry::{Entry, Scan};
+pub use laws::{entries_stand_in_directories, spelled_paths};
 pub use memory::NoMemory;
 pub use moment::{GREATEST_MOMENT, Moment};
 pub use name::{Name, NameErr};

@@ -1,3 +1,5 @@
+//! Want of memory, as the only error of a call.
+
 use std::alloc::{AllocError, AllocFailed};
 use thiserror::Error;
 

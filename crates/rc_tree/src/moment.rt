@@ -1,3 +1,5 @@
+//! A point in time.
+
 ghost use Rattle.std.specs.Prelude.{◌≡◌, ◌≤◌, ℕ};
 
 use std::marker::Model;

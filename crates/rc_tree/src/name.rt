@@ -1,3 +1,5 @@
+//! The name of an entry: how it is read, shown and folded.
+
 ghost use Rattle.std.specs.Prelude.{◌≡◌, ◌==◌, ◌⊎◌, ◌≤◌, None, Some, Option, length, IfOk, IfErr, chars, position, not};
 ghost use Rattle.std.specs.List.{list_all};
 ghost use Rattle.rc_tree.specs.declared.name.NameErr.TheVariants.{NoMemory as OutOfMemory};

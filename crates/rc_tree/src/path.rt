@@ -1,3 +1,5 @@
+//! Paths and keys: the ways to entries, and what makes two of them one.
+
 ghost use Rattle.std.specs.Prelude.{◌≡◌, ◌⊎◌, ◌≤◌, ◌<◌, None, Some, [], ◌∷◌, ◌++◌, length, take, chars, All, MatchOption, IfOk, IfErr, IsErrOf};
 ghost use Rattle.std.proofs.Common.{rules};
 ghost use Rattle.std.specs.Cmp.{eq_by_cmp_equiv, nat_cmp_total, partial_equiv_from_equiv, partial_order_from_own_ties};

@@ -1,3 +1,5 @@
+//! The properties of an entry.
+
 ghost use Rattle.std.specs.Prelude.{◌≡◌, IfOk};
 
 use crate::{Attr, Moment, NoMemory, Security};

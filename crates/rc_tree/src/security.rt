@@ -1,3 +1,5 @@
+//! A security string.
+
 ghost use Rattle.std.specs.Prelude.{◌≡◌, ◌≤◌, [], length, vec_len, IfOk};
 
 use crate::NoMemory;

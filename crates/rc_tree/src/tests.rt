@@ -1,3 +1,5 @@
+//! Names, paths and attributes by their public rules, and each call that takes memory once.
+
 use super::*;
 use std::alloc::{AllocError, Global};
 use std::cmp::Ordering;
@@ -42,33 +44,6 @@ fn reads_names(rt: HostRuntime) -> Result<(), Fail> {
     Ok(())
 }
 
-#[test]
-fn refuses_each_character_that_no_name_has(rt: HostRuntime) -> Result<(), Fail> {
-    let alloc = rt.alloc();
-    for bad in ['\\', '/', ':', '*', '?', '"', '<', '>', '|'] {
-        assert_eq!(rt;
-            fault_behind_a(alloc, bad)?,
-            Some(NameErr::BadChar { place: 1 })
-        );
-    }
-    for code in 0..32 {
-        let fault = fault_behind_a(alloc, char::from(code))?;
-        assert_eq!(rt; fault, Some(NameErr::BadChar { place: 1 }));
-    }
-    let others =
-        " !#$%&'()+,-.0123456789;=@ABCDEFGHIJKLMNOPQRSTUVWXYZ[]^_`abcdefghijklmnopqrstuvwxyz{}~\u{7f}";
-    assert_eq!(rt; Name::read(alloc, others)?.text(), others);
-    Ok(())
-}
-
-// The fault of the name that is `a` with this character behind it.
-fn fault_behind_a(alloc: Global, last: char) -> Result<Option<NameErr>, Fail> {
-    let mut text = String::new(alloc);
-    text.push('a')?;
-    text.push(last)?;
-    Ok(Name::read(alloc, text.as_str()).err())
-}
-
 // The names of a path with `\` between them.
 fn spelling(alloc: Global, path: &Path) -> Result<String, AllocError> {
     let mut text = String::new(alloc);
@@ -103,48 +78,6 @@ fn reads_paths(rt: HostRuntime) -> Result<(), Fail> {
             }
             Err(err) => assert_eq!(rt; Some(err), fault, "at {text}"),
         }
-    }
-    Ok(())
-}
-
-#[test]
-fn bounds_paths(rt: HostRuntime) -> Result<(), Fail> {
-    let alloc = rt.alloc();
-    let name = Name::read(alloc, "a")?;
-    let mut text = "a\\".repeat(alloc, 63)?;
-    text.push('a')?;
-    let deepest = Path::read(alloc, text.as_str())?;
-    assert_eq!(rt; deepest.names().len(), 64);
-    assert_eq!(rt; deepest.join(alloc, &name).err(), Some(PathErr::TooDeep));
-    text.push_str("\\a")?;
-    assert_eq!(rt;
-        Path::read(alloc, text.as_str()).err(),
-        Some(PathErr::TooDeep)
-    );
-    Ok(())
-}
-
-#[test]
-fn orders_paths(rt: HostRuntime) -> Result<(), Fail> {
-    let alloc = rt.alloc();
-    let cases = [
-        ("", "", Ordering::Equal),
-        ("", "a", Ordering::Less),
-        ("B", "a", Ordering::Greater),
-        ("a.txt", "A.TXT", Ordering::Equal),
-        ("\u{212a}", "k", Ordering::Equal),
-        ("Σ\\x", "ς\\X", Ordering::Equal),
-        ("ß", "ss", Ordering::Greater),
-        ("a", "A\\b", Ordering::Less),
-        ("a", "a b", Ordering::Less),
-        ("a\\z", "a b", Ordering::Less),
-        ("_", "Z", Ordering::Less),
-    ];
-    for (left, right, order) in cases {
-        let left = Path::read(alloc, left)?;
-        let right = Path::read(alloc, right)?;
-        assert_eq!(rt; left.cmp(&right), order);
-        assert_eq!(rt; right.cmp(&left), order.reverse());
     }
     Ok(())
 }
@@ -204,95 +137,6 @@ fn stores_attributes(rt: HostRuntime) {
         assert_eq!(rt; attr.stored(kind), stored);
         assert_eq!(rt; Attr::read(stored, kind), Some(attr));
     }
-}
-
-#[test]
-fn stores_each_attribute_as_its_bit(rt: HostRuntime) {
-    const NO: Attr = Attr::NONE;
-    let cases = [
-        (
-            Attr {
-                readonly: true,
-                ..NO
-            },
-            0x1,
-        ),
-        (Attr { hidden: true, ..NO }, 0x2),
-        (Attr { system: true, ..NO }, 0x4),
-        (
-            Attr {
-                archive: true,
-                ..NO
-            },
-            0x20,
-        ),
-        (
-            Attr {
-                temporary: true,
-                ..NO
-            },
-            0x100,
-        ),
-        (Attr { sparse: true, ..NO }, 0x200),
-        (
-            Attr {
-                compressed: true,
-                ..NO
-            },
-            0x800,
-        ),
-        (
-            Attr {
-                offline: true,
-                ..NO
-            },
-            0x1000,
-        ),
-        (
-            Attr {
-                not_indexed: true,
-                ..NO
-            },
-            0x2000,
-        ),
-        (
-            Attr {
-                encrypted: true,
-                ..NO
-            },
-            0x4000,
-        ),
-    ];
-    for (attr, bit) in cases {
-        assert_eq!(rt; attr.stored(Kind::File), bit);
-        assert_eq!(rt; attr.stored(Kind::Dir), bit | 0x10);
-        assert_eq!(rt; Attr::read(bit, Kind::File), Some(attr));
-        assert_eq!(rt; Attr::read(bit | 0x10, Kind::Dir), Some(attr));
-    }
-}
-
-#[test]
-fn reads_a_pattern_exactly_where_it_is_stored(rt: HostRuntime) {
-    // All patterns of 16 bits. The ten known bits are 0x7b27.
-    for pattern in 0..0x1_0000 {
-        let known = pattern & !0x7b27 == 0;
-        let directory = pattern & !0x7b37 == 0 && pattern & 0x10 == 0x10;
-        let file = pattern == 0x80 || known && pattern != 0;
-        let read = Attr::read(pattern, Kind::Dir).map(|attr| attr.stored(Kind::Dir));
-        assert_eq!(rt; read, if directory { Some(pattern) } else { None });
-        let read = Attr::read(pattern, Kind::File).map(|attr| attr.stored(Kind::File));
-        assert_eq!(rt; read, if file { Some(pattern) } else { None });
-    }
-    for pattern in [0x1_0000, 0x1_0010, 0x8000_0020, u32::MAX] {
-        assert_eq!(rt; Attr::read(pattern, Kind::Dir), None);
-        assert_eq!(rt; Attr::read(pattern, Kind::File), None);
-    }
-}
-
-#[test]
-fn compares_attributes(rt: HostRuntime) {
-    assert_eq!(rt; ALL.compared().stored(Kind::File), 0x2127);
-    assert_eq!(rt; SOME.compared(), SOME);
 }
 
 #[test]

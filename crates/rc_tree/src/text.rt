@@ -1,3 +1,5 @@
+//! A text, which contracts see as its characters.
+
 ghost use Rattle.std.specs.Prelude.{◌≡◌, [], ◌∷◌, ◌++◌, IfOk, chars};
 ghost use Rattle.std.proofs.Common.{rules};
 ghost use Rattle.std.specs.Cmp.{eq_by_cmp_equiv, nat_cmp_total, partial_equiv_from_equiv, partial_order_from_own_ties};

@@ -1,5 +1,8 @@
 pub mod Faults
 pub mod Frames
+pub mod Images
+pub mod Log
 pub mod Reading
+pub mod Rows
 pub mod Site
 pub mod Streams

@@ -1,5 +1,5 @@
 -- What a site tells, and what stands at a key of it before and after a call.
-use Rattle.std.specs.Prelude.{◌≡◌, ◌≢◌, ◌⊎◌, ℕ, ◌+◌, ◌-◌, ◌<◌, ◌≤◌, min, max, List, [], ◌∷◌, ◌++◌, Option, Some, None, option_map, length, take, drop, replicate, All, IsSomeAnd, MatchOption, Result, Ok, Err}
+use Rattle.std.specs.Prelude.{◌≡◌, ◌≢◌, ◌⊎◌, ℕ, ◌+◌, ◌-◌, ◌<◌, ◌≤◌, min, max, List, [], ◌∷◌, ◌++◌, Option, Some, None, option_map, length, take, drop, replicate, All, IsSomeAnd, MatchOption, Result, Ok, Err, slice_get}
 use Rattle.std.specs.FinMap.{get}
 use Rattle.std.specs.declared.cmp.Ordering.TheVariants.{Less}
 use Rattle.rc_tree.specs.declared.attr.Kind.TheVariants.{File, Dir}
@@ -9,6 +9,7 @@ use Rattle.rc_tree.specs.Attr.{no_attr}
 use Rattle.rc_tree.specs.Name.{folded}
 use Rattle.rc_tree.specs.Path.{key_of, last_name, parent_of, name_cmp}
 use Rattle.rc_tree.specs.Tree.{Node, Tree, IsDirectory}
+use Rattle.rc_volume.specs.Log.{Event}
 use Rattle.rc_volume.specs.Reading.{Opens, part_of}
 use Rattle.rc_volume.specs.declared.binding.Binding.{Binding}
 use Rattle.rc_volume.specs.declared.want.Want.{Want}
@@ -24,10 +25,11 @@ pub record Told : Type 0 where
   pub target : Tree
   pub notes : List ℕ
 
--- all that contracts see of a site: what it tells, what readers were made for, what its roots were named, in order, and
--- how often each part failed
+-- all that contracts see of a site: what it tells, what it went through, of which a stop may leave more than what it
+-- tells, what readers were made for, what its roots were named, in order, and how often each part failed
 pub record Seen : Type 0 where
   pub told : Told
+  pub log : List Event
   pub opened : List Want
   pub bound : List Binding
   pub faults : Part → ℕ
@@ -146,6 +148,35 @@ SetsProps result props = Done result (Becomes (with_props props)) (Maybe (Become
 
 abbrev pub Removes : {T : Type 0} → Result T SiteErr → Change
 Removes result = Done result Goes (Maybe Goes)
+
+-- The record
+
+-- bytes were written in a range, perhaps in part: no fewer than there were, at most up to the range's end, and outside the
+-- range those that there were
+pub record IsTornBytes (off len : ℕ) (old new : List ℕ) : Type 0 where
+  pub no_shorter : length old ≤ length new
+  pub no_longer : length new ≤ max (length old) (off + len)
+  pub before : (i : ℕ) → i < length old → i < off → slice_get new i ≡ slice_get old i
+  pub after : (i : ℕ) → i < length old → off + len ≤ i → slice_get new i ≡ slice_get old i
+
+-- bytes were brought to a length, perhaps in part: a length between both, and those that there were below the lesser
+pub record IsCutBytes (len : ℕ) (old new : List ℕ) : Type 0 where
+  pub no_shorter : min (length old) len ≤ length new
+  pub no_longer : length new ≤ max (length old) len
+  pub front : (i : ℕ) → i < min (length old) len → slice_get new i ≡ slice_get old i
+
+-- What the answer of a call that changes the record says of its bytes before and after it
+
+abbrev pub NotesDone : {T : Type 0} → Result T SiteErr → List ℕ → (List ℕ → List ℕ → Type 0) → List ℕ → List ℕ → Type 0
+NotesDone (Ok value) done half old new = new ≡ done
+NotesDone (Err site_err.Failed) done half old new = half old new
+NotesDone (Err site_err.NoMemory) done half old new = new ≡ old
+
+abbrev pub Writes : {T : Type 0} → Result T SiteErr → ℕ → List ℕ → List ℕ → List ℕ → Type 0
+Writes result off bytes old new = NotesDone result (take off old ++ bytes ++ drop (off + length bytes) old) (IsTornBytes off (length bytes)) old new
+
+abbrev pub Cuts : {T : Type 0} → Result T SiteErr → ℕ → List ℕ → List ℕ → Type 0
+Cuts result len old new = NotesDone result (take len old) (IsCutBytes len) old new
 
 -- Conditions
 

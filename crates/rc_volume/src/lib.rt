@@ -13,9 +13,12 @@ mod binding;
 mod clock;
 mod input;
 mod job_store;
+pub mod laws;
 mod reader;
 mod sink;
 mod site;
+#[cfg(test)]
+mod tests;
 mod want;
 
 pub use binding::Binding;

@@ -1,15 +1,17 @@
 //! The site of a mirror: its two trees and the record of a run.
 
-ghost use Rattle.std.specs.Prelude.{◌≡◌, ◌+◌, ◌^◌, ◌≤◌, ◌<◌, ⊤, true, Bool, List, ◌++◌, chars, length, All, IfOk, IfSome, IsSome, option_map};
+ghost use Rattle.std.specs.Prelude.{◌≡◌, ◌+◌, ◌^◌, ◌≤◌, ◌<◌, ⊤, true, Bool, List, ◌++◌, chars, length, vec_len, All, IfOk, IfSome, IsSome, option_map};
 ghost use Rattle.std.specs.Option.{option_copied};
 ghost use Rattle.std.specs.FinMap.{get};
 ghost use Rattle.rc_tree.specs.declared.attr.Kind.TheVariants.{Dir};
 ghost use Rattle.rc_tree.specs.declared.moment.TheConstants.{GREATEST_MOMENT};
 ghost use Rattle.rc_tree.specs.Path.{key_of, last_name};
 ghost use Rattle.rc_tree.specs.Tree.{IsDirectory, IsTree};
-ghost use Rattle.rc_volume.specs.Faults.{bind_cause, part_cause, side_cause};
-ghost use Rattle.rc_volume.specs.Frames.{Absorbs, Binds, ChangesAt, IsBound, Looks, MakesReader, opened_by};
-ghost use Rattle.rc_volume.specs.Site.{Seen, tree_in, node_at, fresh_dir, fresh_file, entry_of, Makes, Puts, Removes, Resizes, SetsProps, IsVacant, IsRemovable, IsWithin, HasFile, IsListed, Lists, ReadsFrom};
+ghost use Rattle.rc_volume.specs.Faults.{bind_cause, part_cause, part_for, side_cause};
+ghost use Rattle.rc_volume.specs.Frames.{Absorbs, Binds, ChangesAt, ChangesNotes, IsBound, Looks, MakesReader, Syncs, opened_by};
+ghost use Rattle.rc_volume.specs.Log.{Logs, LogsSync, changed, cut, make, noted, notes_synced, put, remove, resize, set_props, synced, write};
+ghost use Rattle.rc_volume.specs.Reading.{part_of};
+ghost use Rattle.rc_volume.specs.Site.{Seen, tree_in, node_at, fresh_dir, fresh_file, entry_of, Makes, Puts, Removes, Resizes, SetsProps, Cuts, Writes, IsVacant, IsRemovable, IsWithin, HasFile, IsListed, Lists, ReadsFrom};
 
 use crate::{Reader, Want};
 use rc_tree::{Entry, Name, Path, Props, Scan};
@@ -55,6 +57,9 @@ pub enum BindErr {
 /// in others what it answers. A call that changes an entry leaves all other entries, the other tree and the record as
 /// they were, whatever it answers; after `NoMemory` the entry is as it was too, and after `Failed` it may be half
 /// changed.
+///
+/// What a stop may leave is said of the log: each changing call that is not followed by a sync of its part that succeeded
+/// may be done, half done or not done, whatever it answered.
 pub trait Site {
     /// What the readers of the source count their failed reads in.
     type Tally: Send + Drop;
@@ -120,16 +125,20 @@ pub trait Site {
     /// Makes a directory without entries, attributes and security, and with both times 0.
     fn make_dir(&mut self, alloc: Global, side: Side, path: &Path) -> Result<(), SiteErr>
         requires { tells ≡ true → IsVacant (tree_in (view self.old) side) path.now }
-        ensures { ChangesAt tells side (key_of path.now)
+        ensures frame { ChangesAt tells side (key_of path.now)
             (Makes result (fresh_dir (last_name path.now)))
-            (side_cause side result) (view self.old) (view self.new) };
+            (side_cause side result) (view self.old) (view self.new) }
+        ensures log { tells ≡ true → Logs result (changed side (key_of path.now)
+            (make (fresh_dir (last_name path.now)))) (view self.old).log (view self.new).log };
 
     /// Makes a file without bytes, attributes and security, and with both times 0.
     fn make_file(&mut self, alloc: Global, side: Side, path: &Path) -> Result<(), SiteErr>
         requires { tells ≡ true → IsVacant (tree_in (view self.old) side) path.now }
-        ensures { ChangesAt tells side (key_of path.now)
+        ensures frame { ChangesAt tells side (key_of path.now)
             (Makes result (fresh_file (last_name path.now)))
-            (side_cause side result) (view self.old) (view self.new) };
+            (side_cause side result) (view self.old) (view self.new) }
+        ensures log { tells ≡ true → Logs result (changed side (key_of path.now)
+            (make (fresh_file (last_name path.now)))) (view self.old).log (view self.new).log };
 
     /// Writes bytes at an offset of a file, within its length.
     fn put(
@@ -143,16 +152,20 @@ pub trait Site {
         requires some_bytes { 0 < length bytes.now }
         requires within { tells ≡ true → HasFile (tree_in (view self.old) side) (key_of path.now)
             (λ node. off + length bytes.now ≤ length node.bytes) }
-        ensures { ChangesAt tells side (key_of path.now) (Puts result off bytes.now)
-            (side_cause side result) (view self.old) (view self.new) };
+        ensures frame { ChangesAt tells side (key_of path.now) (Puts result off bytes.now)
+            (side_cause side result) (view self.old) (view self.new) }
+        ensures log { tells ≡ true → Logs result (changed side (key_of path.now)
+            (put off (length bytes.now))) (view self.old).log (view self.new).log };
 
     /// Brings a file to a length of at most 2^40 bytes. Bytes that come are 0.
     fn set_len(&mut self, alloc: Global, side: Side, path: &Path, len: u64) -> Result<(), SiteErr>
         requires bound { len ≤ 2 ^ 40 }
         requires file { tells ≡ true →
             HasFile (tree_in (view self.old) side) (key_of path.now) (λ _. ⊤) }
-        ensures { ChangesAt tells side (key_of path.now) (Resizes result len)
-            (side_cause side result) (view self.old) (view self.new) };
+        ensures frame { ChangesAt tells side (key_of path.now) (Resizes result len)
+            (side_cause side result) (view self.old) (view self.new) }
+        ensures log { tells ≡ true → Logs result (changed side (key_of path.now)
+            (resize len)) (view self.old).log (view self.new).log };
 
     /// Gives an entry these properties.
     fn set_props(
@@ -163,18 +176,27 @@ pub trait Site {
         props: &Props,
     ) -> Result<(), SiteErr>
         requires { tells ≡ true → IsSome (node_at (view self.old).told side (key_of path.now)) }
-        ensures { ChangesAt tells side (key_of path.now) (SetsProps result props.now)
-            (side_cause side result) (view self.old) (view self.new) };
+        ensures frame { ChangesAt tells side (key_of path.now) (SetsProps result props.now)
+            (side_cause side result) (view self.old) (view self.new) }
+        ensures log { tells ≡ true → Logs result (changed side (key_of path.now)
+            (set_props props.now)) (view self.old).log (view self.new).log };
 
     /// Removes a file, or a directory that has no entries.
     fn remove(&mut self, alloc: Global, side: Side, path: &Path) -> Result<(), SiteErr>
         requires { tells ≡ true → IsRemovable (tree_in (view self.old) side) (key_of path.now) }
-        ensures { ChangesAt tells side (key_of path.now) (Removes result)
-            (side_cause side result) (view self.old) (view self.new) };
+        ensures frame { ChangesAt tells side (key_of path.now) (Removes result)
+            (side_cause side result) (view self.old) (view self.new) }
+        ensures log { tells ≡ true → Logs result (changed side (key_of path.now)
+            remove) (view self.old).log (view self.new).log };
 
-    /// Makes what was changed on a side durable.
+    /// Makes what was changed on a side durable: after `Ok` a stop leaves of it what reads. After an error it leaves what
+    /// it might have left before.
     fn sync(&mut self, alloc: Global, side: Side) -> Result<(), SiteErr>
-        ensures { Looks tells (side_cause side result) (view self.old) (view self.new) };
+        ensures frame { Syncs tells (part_for side) (side_cause side result)
+            (view self.old) (view self.new) }
+        ensures tree { tells ≡ true → IsTree (tree_in (view self.old) side) }
+        ensures log { tells ≡ true → LogsSync result (synced side (tree_in (view self.old) side))
+            (view self.old).log (view self.new).log };
 
     /// How many bytes the record has.
     fn record_len(&mut self, alloc: Global) -> Result<u64, SiteErr>
@@ -182,6 +204,39 @@ pub trait Site {
             (view self.old) (view self.new) }
         ensures length { tells ≡ true → IfOk result
             (λ len. len ≡ length (view self.old).told.notes) };
+
+    /// Bytes of the record: so many from an offset on, a range within it.
+    fn record_read(&mut self, alloc: Global, off: u64, len: usize) -> Result<Vec<u8>, SiteErr>
+        requires { tells ≡ true → off + len ≤ length (view self.old).told.notes }
+        ensures frame { Looks tells (part_cause Part.Record result)
+            (view self.old) (view self.new) }
+        ensures bytes { tells ≡ true → IfOk result
+            (λ bytes. bytes.items ≡ part_of off len (view self.old).told.notes) }
+        ensures count { IfOk result (λ bytes. vec_len bytes ≡ len) };
+
+    /// Writes bytes into the record, from an offset of at most its length on, over those that are there and past its end.
+    fn record_write(&mut self, alloc: Global, off: u64, bytes: &[u8]) -> Result<(), SiteErr>
+        requires some_bytes { 0 < length bytes.now }
+        requires within { tells ≡ true → off ≤ length (view self.old).told.notes }
+        ensures frame { ChangesNotes tells (Writes result off bytes.now)
+            (part_cause Part.Record result) (view self.old) (view self.new) }
+        ensures log { tells ≡ true → Logs result (noted (write off (length bytes.now)))
+            (view self.old).log (view self.new).log };
+
+    /// Cuts the record to a length of at most its own.
+    fn record_cut(&mut self, alloc: Global, len: u64) -> Result<(), SiteErr>
+        requires { tells ≡ true → len ≤ length (view self.old).told.notes }
+        ensures frame { ChangesNotes tells (Cuts result len)
+            (part_cause Part.Record result) (view self.old) (view self.new) }
+        ensures log { tells ≡ true → Logs result (noted (cut len))
+            (view self.old).log (view self.new).log };
+
+    /// Makes what was changed of the record durable, as `sync` does for a side.
+    fn record_sync(&mut self, alloc: Global) -> Result<(), SiteErr>
+        ensures frame { Syncs tells Part.Record (part_cause Part.Record result)
+            (view self.old) (view self.new) }
+        ensures log { tells ≡ true → LogsSync result (notes_synced (view self.old).told.notes)
+            (view self.old).log (view self.new).log };
 
     /// A reader of these ranges, which lie within files of the source. Its fault counts on the source.
     fn reader(&mut self, alloc: Global, wants: Vec<Want>) -> Result<Self::Reader, SiteErr>

@@ -44,7 +44,8 @@ const MIXED_PLAN: &str =
 fn plan(alloc: Global, source: Tree, target: Tree) -> Result<Result<Plan, PlanErr>, Fail> {
     let mut site = site(alloc, source, target)?;
     let clock = FixedClock::new(T0);
-    Ok(make_plan(alloc, &Job::new(), Moment::new(T0), &mut site, &clock))
+    let job = Job::new(alloc)?;
+    Ok(make_plan(alloc, &job, Moment::new(T0), &mut site, &clock))
 }
 
 // A line for each item: its path, act, class, what comes after, and size.

@@ -1,18 +1,18 @@
 use Rattle.std.proofs.Common.{refl, sym, subst, inr}
 use Rattle.rc_volume.specs.Faults.{RoseBy}
 use Rattle.drill.specs.declared.run.Stop.{Stop}
-use Rattle.drill.specs.Drilling.{OfSome, Writes}
+use Rattle.drill.specs.Drilling.{OfSome, WritesOut}
 use Rattle.drill.specs.Finishing.{refusal_line}
 use Rattle.drill.proofs.Drills.{wrote_front, AppendsFront-none}
 use Rattle.drill.proofs.run.refuse.Goals as goal
 
 pub returns-in-Input-clause-written : goal.returns-in-Input-clause-written
 returns-in-Input-clause-written g c =
-    subst (λ (stop : Stop). OfSome g.K.Sink.tells (g.K.Sink.received c.write_line.new.out) (λ x. Writes (RoseBy 1 (g.K.Sink.faults c.args.out.now) (g.K.Sink.faults c.write_line.new.out)) (g.K.Sink.received c.args.out.now) (refusal_line stop) 16 x c.write_line.result)) (sym c.in-Input.is) c.write_line.ensures.written
+    subst (λ (stop : Stop). OfSome g.K.Sink.tells (g.K.Sink.received c.write_line.new.out) (λ x. WritesOut (RoseBy 1 (g.K.Sink.faults c.args.out.now) (g.K.Sink.faults c.write_line.new.out)) (g.K.Sink.received c.args.out.now) (refusal_line stop) 16 x c.write_line.result)) (sym c.in-Input.is) c.write_line.ensures.written
 
 pub returns-in-SiteText-clause-written : goal.returns-in-SiteText-clause-written
 returns-in-SiteText-clause-written g c =
-    subst (λ (stop : Stop). OfSome g.K.Sink.tells (g.K.Sink.received c.write_line-in-SiteText.new.out) (λ x. Writes (RoseBy 1 (g.K.Sink.faults c.args.out.now) (g.K.Sink.faults c.write_line-in-SiteText.new.out)) (g.K.Sink.received c.args.out.now) (refusal_line stop) 16 x c.write_line-in-SiteText.result)) (sym c.in-SiteText.is) c.write_line-in-SiteText.ensures.written
+    subst (λ (stop : Stop). OfSome g.K.Sink.tells (g.K.Sink.received c.write_line-in-SiteText.new.out) (λ x. WritesOut (RoseBy 1 (g.K.Sink.faults c.args.out.now) (g.K.Sink.faults c.write_line-in-SiteText.new.out)) (g.K.Sink.received c.args.out.now) (refusal_line stop) 16 x c.write_line-in-SiteText.result)) (sym c.in-SiteText.is) c.write_line-in-SiteText.ensures.written
 
 pub returns-in-NoMemory-clause-written : goal.returns-in-NoMemory-clause-written
 returns-in-NoMemory-clause-written g c =

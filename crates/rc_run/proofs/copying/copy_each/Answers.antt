@@ -6,6 +6,8 @@ use Rattle.rc_volume.specs.declared.want.Want.{Want}
 use Rattle.rc_volume.specs.Reading.{Opens}
 use Rattle.rc_run.specs.Copying.{goal_under}
 use Rattle.rc_run.proofs.ItemLemmas.{after_more, between_done, between_failed, contains_want, doable_still, opens_want, taken_all}
+use Rattle.rc_volume.specs.declared.site.Part.TheVariants as part
+use Rattle.rc_volume.proofs.ImageLemmas.{logs_then}
 use Rattle.rc_run.proofs.copying.copy_each.Goals as goal
 
 pub do_item-requires-clause-opens : goal.do_item-requires-clause-opens
@@ -32,7 +34,14 @@ loop-item-preserved g c = record {
       let now = (g.S.Site.view c.loop-item.site).told in
       let done = c.in-Ok.ensures.done tells ∙ ap (λ (tree : Tree). goal_under c.args.copying.now (Some item) (get tree key) (get now.target key)) (c.loop-item.invariant.frame.other_tree tells) in
       after_more c.args.copying.now c.args.items.now c.loop-item.item-index item _ _ _ _ c.requires.runnable.rising c.loop-item-test.true c.item-item.is (c.loop-item.invariant.copied tells) done (c.do_item.ensures.frame.elsewhere tells).others;
-  frame = search rules;
+  frame = record {
+    other_tree = search rules;
+    notes = search rules;
+    log = λ tells. logs_then part.Target _ _ _ (c.loop-item.invariant.frame.log tells) (c.do_item.ensures.frame.log tells);
+    opened = search rules;
+    bound = search rules;
+    counts = search rules;
+  };
   buffer = search rules;
 }
 
@@ -40,3 +49,13 @@ pub returns-clause-between : goal.returns-clause-between
 returns-clause-between g c = λ tells.
     between_done c.args.copying.now c.args.items.now (length c.args.items.now) (g.S.Site.view c.args.site.now).told _ (c.requires.doable tells)
     (taken_all c.args.copying.now c.args.items.now c.loop-item.item-index (g.S.Site.view c.args.site.now).told.source (g.S.Site.view c.args.site.now).told.target _ (omega (arith, c.loop-item-test.false, c.loop-item.auto.item-index-end)) (c.loop-item.invariant.copied tells))
+
+pub returns-in-Err-clause-frame : goal.returns-in-Err-clause-frame
+returns-in-Err-clause-frame g c = record {
+  other_tree = search rules;
+  notes = search rules;
+  log = λ tells. logs_then part.Target _ _ _ (c.loop-item.invariant.frame.log tells) (c.do_item.ensures.frame.log tells);
+  opened = search rules;
+  bound = search rules;
+  counts = search rules;
+}

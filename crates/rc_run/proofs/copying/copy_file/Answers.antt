@@ -5,7 +5,11 @@ use Rattle.rc_tree.specs.Tree.{Tree}
 use Rattle.std.specs.Prelude.{option_map}
 use Rattle.rc_run.specs.Copying.{with_bytes_of}
 use Rattle.rc_volume.specs.Site.{bytes_in}
+use Rattle.rc_run.proofs.CopyableLemmas.{copyable}
 use Rattle.rc_run.proofs.NodeLemmas.{copies_so}
+use Rattle.std.proofs.Common.{rules}
+use Rattle.rc_volume.specs.declared.site.Part.TheVariants as part
+use Rattle.rc_volume.proofs.ImageLemmas.{logs_then}
 use Rattle.rc_run.proofs.copying.copy_file.Goals as goal
 
 pub returns-in-Ok-fill_file-clause-copied : goal.returns-in-Ok-fill_file-clause-copied
@@ -22,5 +26,25 @@ returns-in-Ok-fill_file-clause-copied g c = λ tells.
     let bytes : get filled.target key ≡ option_map (with_bytes_of copying.with_bytes (bytes_in (get start.source key))) (get begun.target key) =
     c.in-Ok-fill_file.ensures.filled tells ∙ ap (λ (tree : Tree). option_map (with_bytes_of copying.with_bytes (bytes_in (get tree key))) (get begun.target key)) first in
     copies_so c.finish.result copying item (get start.source key) (get start.target key) (get begun.target key) (get filled.target key) (get end.target key)
-    (c.requires.copyable tells) c.requires.copy (c.in-Ok.ensures.begun tells).0 bytes
+    (copyable item (get start.source key) (get start.target key) (c.requires.doable tells) c.requires.copy) c.requires.copy (c.in-Ok.ensures.begun tells).0 bytes
     (λ from here. c.finish.ensures.finished tells from (ap (λ (tree : Tree). get tree key) second ∙ here))
+
+pub returns-in-Ok-fill_file-clause-frame : goal.returns-in-Ok-fill_file-clause-frame
+returns-in-Ok-fill_file-clause-frame g c = record {
+  here = search rules;
+  elsewhere = search rules;
+  log = λ tells. logs_then part.Target _ _ _ (logs_then part.Target _ _ _ (c.begin.ensures.frame.log tells) (c.fill_file.ensures.frame.log tells)) (c.finish.ensures.frame.log tells);
+  opened = search rules;
+  bound = search rules;
+  counts = search rules;
+}
+
+pub returns-in-Err-fill_file-clause-frame : goal.returns-in-Err-fill_file-clause-frame
+returns-in-Err-fill_file-clause-frame g c = record {
+  here = search rules;
+  elsewhere = search rules;
+  log = λ tells. logs_then part.Target _ _ _ (c.begin.ensures.frame.log tells) (c.fill_file.ensures.frame.log tells);
+  opened = search rules;
+  bound = search rules;
+  counts = search rules;
+}

@@ -5,6 +5,8 @@ use Rattle.rc_tree.specs.Path.{key_of}
 use Rattle.rc_volume.specs.declared.site.Side.TheVariants.{Target}
 use Rattle.rc_volume.specs.Site.{node_at}
 use Rattle.rc_run.proofs.CopyLemmas.{IsFilled, IsFilled-more}
+use Rattle.rc_volume.specs.declared.site.Part.TheVariants as part
+use Rattle.rc_volume.proofs.ImageLemmas.{logs_then}
 use Rattle.rc_run.proofs.filling.copy_bytes.Goals as goal
 
 pub loop-off-preserved : goal.loop-off-preserved
@@ -18,6 +20,23 @@ loop-off-preserved g c = record {
       subst (λ (k : ℕ). IsFilled bytes c.args.size (c.loop-off.off + k) (node_at (g.S.Site.view c.args.site.now).told Target key) (node_at (g.S.Site.view c.copy_piece.new.site).told Target key)) whole
       (IsFilled-more bytes c.args.size c.loop-off.off _ _ _ _
       (c.loop-off.invariant.filled tells) (c.in-Ok.ensures.whole tells) (c.in-Ok.ensures.copied tells));
-  frame = search rules;
+  frame = record {
+    here = search rules;
+    elsewhere = search rules;
+    log = λ tells. logs_then part.Target _ _ _ (c.loop-off.invariant.frame.log tells) (c.copy_piece.ensures.frame.log tells);
+    opened = search rules;
+    bound = search rules;
+    counts = search rules;
+  };
   buffer = search rules;
+}
+
+pub returns-in-Err-clause-frame : goal.returns-in-Err-clause-frame
+returns-in-Err-clause-frame g c = record {
+  here = search rules;
+  elsewhere = search rules;
+  log = λ tells. logs_then part.Target _ _ _ (c.loop-off.invariant.frame.log tells) (c.copy_piece.ensures.frame.log tells);
+  opened = search rules;
+  bound = search rules;
+  counts = search rules;
 }

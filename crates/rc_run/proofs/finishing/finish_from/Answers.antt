@@ -6,6 +6,9 @@ use Rattle.rc_volume.specs.declared.site.Side.TheVariants.{Target}
 use Rattle.rc_volume.specs.Site.{Told, node_at}
 use Rattle.rc_run.specs.Copying.{GivesProps}
 use Rattle.rc_run.proofs.NodeLemmas.{finishes_so, lonely_props, standing_props, same_props}
+use Rattle.std.proofs.Common.{rules}
+use Rattle.rc_volume.specs.declared.site.Part.TheVariants as part
+use Rattle.rc_volume.proofs.ImageLemmas.{logs_behind}
 use Rattle.rc_run.proofs.finishing.finish_from.Goals as goal
 
 pub returns-then-is_lonely-clause-finished : goal.returns-then-is_lonely-clause-finished
@@ -29,3 +32,13 @@ returns-in-Ok-Some-clause-finished g c = λ tells from same.
     finishes_so c.set_copied_props-in-Ok-Some.result copying c.args.item.now from props (node_at start.told Target key) now
     (λ node here. standing_props copying c.args.item.now from node c.args.source.now c.in-Ok-Some.old other same (same_props node (node_at start.told Target key) c.in-Ok-Some.old here (sym c.in-Ok-Some.field-0-is ∙ c.in-Ok-Some.ensures.props tells)))
     set
+
+pub returns-in-Ok-Some-clause-frame : goal.returns-in-Ok-Some-clause-frame
+returns-in-Ok-Some-clause-frame g c = record {
+  here = search rules;
+  elsewhere = search rules;
+  log = λ tells. logs_behind part.Target _ _ _ (c.props_at.ensures.frame.log tells) (c.set_copied_props-in-Ok-Some.ensures.frame.log tells);
+  opened = search rules;
+  bound = search rules;
+  counts = search rules;
+}

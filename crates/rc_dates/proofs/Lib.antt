@@ -1,0 +1,2 @@
+pub mod Midnights
+pub mod Stamps

@@ -1,0 +1,178 @@
+-- What a decided item says of both sides at its key.
+use Rattle.std.proofs.Common.{◌≡◌, ℕ, Bool, true, false, cond, not, ◌||◌, List, Option, Some, None, refl, sym, ap, ◌∙◌}
+use Rattle.rc_tree.specs.declared.attr.Kind.{Kind}
+use Rattle.rc_tree.specs.declared.attr.Kind.TheVariants.{File, Dir}
+use Rattle.rc_tree.specs.Path.{last_name}
+use Rattle.rc_tree.specs.Tree.{Node}
+use Rattle.rc_class.specs.declared.class.Class.{Class}
+use Rattle.rc_class.specs.declared.class.Class.TheVariants as class
+use Rattle.rc_class.specs.declared.decision.Act.{Act}
+use Rattle.rc_class.specs.declared.decision.Act.TheVariants as act
+use Rattle.rc_class.specs.declared.decision.Reason.{Reason}
+use Rattle.rc_class.specs.declared.decision.Reason.TheVariants as reason
+use Rattle.rc_class.specs.declared.facts.Facts.{Facts}
+use Rattle.rc_class.specs.declared.facts.Grain.{Grain}
+use Rattle.rc_class.specs.declared.item.Item.{Item}
+use Rattle.rc_class.specs.Class.{class_of_files, class_of_kinds, facts_of, is_extra, is_mismatched, is_same_attr, is_same_time}
+use Rattle.rc_class.specs.Sides.{Beside, HasKind, IsEntryOf, may_act, other_kind}
+use Rattle.rc_job.specs.declared.job.Job.{Job}
+use Rattle.rc_filter.specs.Acts.{class_act, differ, extra_act, grain_of, is_all, kept_for, lonely_act, standing_act, unless}
+use Rattle.rc_filter.specs.Decided.{act_for, extra_item, source_act, source_item}
+use Rattle.rc_filter.specs.Matching.{is_excluded_directory, is_excluded_file, is_named}
+
+pub some_none : {A : Type 0} (x : A) → None ≡ Some x → ⊥
+some_none x e = cc
+
+pub same_some : {A : Type 0} (x y : A) → Some x ≡ Some y → x ≡ y
+same_some x y e = cc
+
+pub taken : {A : Type 0} (b : Bool) (found : Option A) (x : A) → cond b found None ≡ Some x → (b ≡ true) × (found ≡ Some x)
+taken true found x e = (refl, e)
+taken false found x e = absurd (some_none x e)
+
+-- Classes and acts
+
+-- two files have one of five classes
+files_class : (P : Class → Type 0) → P class.Newer → P class.Older → P class.Changed → P class.Tweaked → P class.Same → (same later sized alike : Bool) → P (cond (not same) (cond later class.Newer class.Older) (cond (not sized) class.Changed (cond (not alike) class.Tweaked class.Same)))
+files_class P newer older changed tweaked same false true sized alike = newer
+files_class P newer older changed tweaked same false false sized alike = older
+files_class P newer older changed tweaked same true later false alike = changed
+files_class P newer older changed tweaked same true later true false = tweaked
+files_class P newer older changed tweaked same true later true true = same
+
+-- a file that is copied or kept
+unless_fits : (c : Class) → not (is_extra c || is_mismatched c) ≡ true → not (is_mismatched c) ≡ true → (r : Option Reason) → may_act c File (unless r act.Copy) ≡ true
+unless_fits c copied kept None = copied
+unless_fits c copied kept (Some why) = kept
+
+lonely_fits : (excluded left made : Bool) → may_act class.Lonely Dir (cond excluded (act.Keep reason.Excluded) (cond left (act.Keep reason.Class) (cond made act.Make (act.Keep reason.Empty)))) ≡ true
+lonely_fits true left made = refl
+lonely_fits false true made = refl
+lonely_fits false false true = refl
+lonely_fits false false false = refl
+
+same_fits : (excluded differs : Bool) → may_act class.Same Dir (cond excluded (act.Keep reason.Excluded) (cond differs act.Touch (act.Keep reason.Same))) ≡ true
+same_fits true differs = refl
+same_fits false true = refl
+same_fits false false = refl
+
+extra_file_fits : (left excluded unnamed : Bool) → may_act class.Extra File (cond left (act.Keep reason.Class) (cond excluded (act.Keep reason.Excluded) (cond unnamed (act.Keep reason.NotNamed) act.Extra))) ≡ true
+extra_file_fits true excluded unnamed = refl
+extra_file_fits false true unnamed = refl
+extra_file_fits false false true = refl
+extra_file_fits false false false = refl
+
+extra_directory_fits : (left excluded : Bool) → may_act class.Extra Dir (cond left (act.Keep reason.Class) (cond excluded (act.Keep reason.Excluded) act.Extra)) ≡ true
+extra_directory_fits true excluded = refl
+extra_directory_fits false true = refl
+extra_directory_fits false false = refl
+
+-- The side that has an entry alone
+
+alone_fits : (job : Job) (moment : ℕ) (key : List (List ℕ)) (facts : Facts) (some_below : Bool) (k : Kind) → may_act class.Lonely k (act_for k (class_act job moment key facts class.Lonely) (lonely_act job key some_below)) ≡ true
+alone_fits job moment key facts some_below File = unless_fits class.Lonely refl refl (kept_for job moment key facts class.Lonely)
+alone_fits job moment key facts some_below Dir = lonely_fits (is_excluded_directory job key) job.xl (is_all job.sub || some_below)
+
+pub extra_acts_fit : (job : Job) (key : List (List ℕ)) (k : Kind) → may_act class.Extra k (extra_act job key k) ≡ true
+extra_acts_fit job key File = extra_file_fits job.xx (is_excluded_file job key) (not (is_named job key || job.all_extras))
+extra_acts_fit job key Dir = extra_directory_fits job.xx (is_excluded_directory job key)
+
+-- Both sides
+
+files_fit : (job : Job) (moment : ℕ) (key : List (List ℕ)) (source target : Facts) → may_act (class_of_files (grain_of job) source target) File (class_act job moment key source (class_of_files (grain_of job) source target)) ≡ true
+files_fit job moment key source target =
+    files_class (λ c. may_act c File (class_act job moment key source c) ≡ true)
+    (unless_fits class.Newer refl refl (kept_for job moment key source class.Newer))
+    (unless_fits class.Older refl refl (kept_for job moment key source class.Older))
+    (unless_fits class.Changed refl refl (kept_for job moment key source class.Changed))
+    (unless_fits class.Tweaked refl refl (kept_for job moment key source class.Tweaked))
+    (unless_fits class.Same refl refl (kept_for job moment key source class.Same))
+    (is_same_time (grain_of job) source.written target.written) _ _ (is_same_attr source.attr target.attr)
+
+both_fit : (job : Job) (moment : ℕ) (key : List (List ℕ)) (node there : Node) (k l : Kind) →
+    may_act (class_of_kinds k l (class_of_files (grain_of job) (facts_of node) (facts_of there))) k
+    (act_for k (class_act job moment key (facts_of node) (class_of_kinds k l (class_of_files (grain_of job) (facts_of node) (facts_of there)))) (standing_act job key node.props l there.props)) ≡ true
+both_fit job moment key node there File File = files_fit job moment key (facts_of node) (facts_of there)
+both_fit job moment key node there File Dir = refl
+both_fit job moment key node there Dir File = refl
+both_fit job moment key node there Dir Dir = same_fits (is_excluded_directory job key) (differ job.dcopy node.props there.props)
+
+-- the act of what the source has is one of its class and kind
+pub acts_fit : (job : Job) (moment : ℕ) (key path : List (List ℕ)) (some_below : Bool) (node : Node) (target : Option Node) → (let item = source_item job moment key path some_below node target in may_act item.class item.facts.kind item.act ≡ true)
+acts_fit job moment key path some_below node None = alone_fits job moment key (facts_of node) some_below node.kind
+acts_fit job moment key path some_below node (Some there) = both_fit job moment key node there node.kind there.kind
+
+-- What stands beside
+
+beside_files : (item : Item) (source target : Option Node) → IsEntryOf item source → HasKind item.facts.kind target → (grain : Grain) (a b : Facts) → Beside (class_of_files grain a b) item source target
+beside_files item source target entry beside grain a b =
+    files_class (λ c. Beside c item source target) (entry, beside) (entry, beside) (entry, beside) (entry, beside) (entry, beside)
+    (is_same_time grain a.written b.written) _ _ (is_same_attr a.attr b.attr)
+
+beside_kinds : (item : Item) (node there : Node) (grain : Grain) → IsEntryOf item (Some node) → item.facts.kind ≡ node.kind → (k l : Kind) → node.kind ≡ k → there.kind ≡ l → Beside (class_of_kinds k l (class_of_files grain (facts_of node) (facts_of there))) item (Some node) (Some there)
+beside_kinds item node there grain entry same File File is other = beside_files item (Some node) (Some there) entry (other ∙ sym is ∙ sym same) grain (facts_of node) (facts_of there)
+beside_kinds item node there grain entry same File Dir is other = (entry, other ∙ sym (ap other_kind (same ∙ is)))
+beside_kinds item node there grain entry same Dir File is other = (entry, other ∙ sym (ap other_kind (same ∙ is)))
+beside_kinds item node there grain entry same Dir Dir is other = (entry, other ∙ sym is ∙ sym same)
+
+pub source_beside : (job : Job) (moment : ℕ) (key path : List (List ℕ)) (some_below : Bool) (node : Node) (target : Option Node) → last_name path ≡ node.spelling → (let item = source_item job moment key path some_below node target in Beside item.class item (Some node) target)
+source_beside job moment key path some_below node None named =
+    (record { node = node; stands = refl; facts = refl; spelled = named }, refl)
+source_beside job moment key path some_below node (Some there) named =
+    beside_kinds (source_item job moment key path some_below node (Some there)) node there (grain_of job) (record { node = node; stands = refl; facts = refl; spelled = named }) refl node.kind there.kind refl refl
+
+pub extra_beside : (job : Job) (key path : List (List ℕ)) (node : Node) → last_name path ≡ node.spelling → Beside class.Extra (extra_item job key path node) None (Some node)
+extra_beside job key path node named = (refl, record { node = node; stands = refl; facts = refl; spelled = named })
+
+-- Nothing is removed so far
+
+unless_keeps : (r : Option Reason) → unless r act.Copy ≡ act.Purge → ⊥
+unless_keeps None e = cc
+unless_keeps (Some why) e = cc
+
+class_keeps : (job : Job) (moment : ℕ) (key : List (List ℕ)) (facts : Facts) (c : Class) → class_act job moment key facts c ≡ act.Purge → ⊥
+class_keeps job moment key facts c e =
+    elim (is_mismatched c) as (λ b. cond b act.Mismatch (unless (kept_for job moment key facts c) act.Copy) ≡ act.Purge → ⊥) [
+      | true ↦ λ h. cc
+      | false ↦ λ h. unless_keeps (kept_for job moment key facts c) h
+    ] e
+
+lonely_keeps : (excluded left made : Bool) → cond excluded (act.Keep reason.Excluded) (cond left (act.Keep reason.Class) (cond made act.Make (act.Keep reason.Empty))) ≡ act.Purge → ⊥
+lonely_keeps true left made e = cc
+lonely_keeps false true made e = cc
+lonely_keeps false false true e = cc
+lonely_keeps false false false e = cc
+
+same_keeps : (excluded differs : Bool) → cond excluded (act.Keep reason.Excluded) (cond differs act.Touch (act.Keep reason.Same)) ≡ act.Purge → ⊥
+same_keeps true differs e = cc
+same_keeps false true e = cc
+same_keeps false false e = cc
+
+standing_keeps : (job : Job) (key : List (List ℕ)) (node there : Node) (l : Kind) → standing_act job key node.props l there.props ≡ act.Purge → ⊥
+standing_keeps job key node there File e = cc
+standing_keeps job key node there Dir e = same_keeps (is_excluded_directory job key) (differ job.dcopy node.props there.props) e
+
+act_keeps : (k : Kind) (file directory : Act) → (file ≡ act.Purge → ⊥) → (directory ≡ act.Purge → ⊥) → act_for k file directory ≡ act.Purge → ⊥
+act_keeps File file directory f d e = f e
+act_keeps Dir file directory f d e = d e
+
+pub source_keeps : (job : Job) (moment : ℕ) (key : List (List ℕ)) (some_below : Bool) (node : Node) (target : Option Node) → source_act job moment key some_below node target ≡ act.Purge → ⊥
+source_keeps job moment key some_below node None =
+    act_keeps node.kind _ _ (class_keeps job moment key (facts_of node) class.Lonely) (lonely_keeps (is_excluded_directory job key) job.xl (is_all job.sub || some_below))
+source_keeps job moment key some_below node (Some there) =
+    act_keeps node.kind _ _ (class_keeps job moment key (facts_of node) (class_of_kinds node.kind there.kind (class_of_files (grain_of job) (facts_of node) (facts_of there)))) (standing_keeps job key node there there.kind)
+
+extra_file_keeps : (left excluded unnamed : Bool) → cond left (act.Keep reason.Class) (cond excluded (act.Keep reason.Excluded) (cond unnamed (act.Keep reason.NotNamed) act.Extra)) ≡ act.Purge → ⊥
+extra_file_keeps true excluded unnamed e = cc
+extra_file_keeps false true unnamed e = cc
+extra_file_keeps false false true e = cc
+extra_file_keeps false false false e = cc
+
+extra_directory_keeps : (left excluded : Bool) → cond left (act.Keep reason.Class) (cond excluded (act.Keep reason.Excluded) act.Extra) ≡ act.Purge → ⊥
+extra_directory_keeps true excluded e = cc
+extra_directory_keeps false true e = cc
+extra_directory_keeps false false e = cc
+
+pub extra_keeps : (job : Job) (key : List (List ℕ)) (k : Kind) → extra_act job key k ≡ act.Purge → ⊥
+extra_keeps job key File = extra_file_keeps job.xx (is_excluded_file job key) (not (is_named job key || job.all_extras))
+extra_keeps job key Dir = extra_directory_keeps job.xx (is_excluded_directory job key)

@@ -1,0 +1,128 @@
+-- How scope, and what is copied at or below a key, follow from what lies around it.
+use Rattle.std.proofs.Common.{◌≡◌, ◌≢◌, ℕ, Bool, true, false, ◌&&◌, ◌||◌, List, [], ◌∷◌, ◌++◌, Option, Some, None, length, take, drop, zero, suc, refl, sym, ap, ◌∙◌, append_assoc}
+use Rattle.std.proofs.lemmas.Bool.{true≢false}
+use Rattle.std.specs.Prelude.{is_some}
+use Rattle.std.specs.List.{list_any}
+use Rattle.std.specs.Option.{option_map_or}
+use Rattle.std.specs.FinMap.{get, keys, contains_key-keys}
+use Rattle.std.specs.Ordering.{eq_by_cmp}
+use Rattle.rc_tree.specs.Path.{key_cmp}
+use Rattle.rc_tree.specs.Tree.{Node, Tree, kind_at}
+use Rattle.rc_tree.proofs.Fronts.{by_last, parent-more}
+use Rattle.rc_tree.proofs.Keys.{key_itself, same_key}
+use Rattle.rc_job.specs.declared.job.Job.{Job}
+use Rattle.rc_filter.specs.Decided.{copies, is_at_or_below, is_copied, some_copied}
+use Rattle.rc_filter.specs.Scope.{each_front, enters, is_above_in_scope, is_in_scope}
+
+abbrev Key : Type 0
+Key = List (List ℕ)
+
+-- Tests
+
+pub first_of : (a b : Bool) → a && b ≡ true → a ≡ true
+first_of true b e = refl
+first_of false b e = e
+
+pub second_of : (a b : Bool) → a && b ≡ true → b ≡ true
+second_of true b e = e
+second_of false b e = absurd (true≢false (sym e))
+
+pub both_of : (a b : Bool) → a ≡ true → b ≡ true → a && b ≡ true
+both_of true b e f = f
+both_of false b e f = e
+
+and-true : (b : Bool) → b && true ≡ b
+and-true true = refl
+and-true false = refl
+
+pub and-false : (b : Bool) → b && false ≡ false
+and-false true = refl
+and-false false = refl
+
+and-assoc : (a b c : Bool) → a && (b && c) ≡ (a && b) && c
+and-assoc true b c = refl
+and-assoc false b c = refl
+
+-- Scope
+
+each_front-more : (test : Key → Bool) (above names : Key) (name : List ℕ) → each_front test above (names ++ name ∷ []) ≡ (each_front test above names && test (above ++ (names ++ name ∷ [])))
+each_front-more test above [] name = and-true (test (above ++ name ∷ []))
+each_front-more test above (first ∷ names) name =
+    ap (λ b. test (above ++ first ∷ []) && b) (each_front-more test (above ++ first ∷ []) names name)
+    ∙ ap (λ key. test (above ++ first ∷ []) && (each_front test (above ++ first ∷ []) names && test key)) (append_assoc above (first ∷ []) (names ++ name ∷ []))
+    ∙ and-assoc (test (above ++ first ∷ [])) (each_front test (above ++ first ∷ []) names) (test (above ++ (first ∷ (names ++ name ∷ []))))
+
+-- a directory is in scope where the one above it is and it is gone into
+pub scope-more : (job : Job) (source target : Tree) (names : Key) (name : List ℕ) → is_in_scope job source target (names ++ name ∷ []) ≡ (is_in_scope job source target names && enters job (names ++ name ∷ []) (kind_at source (names ++ name ∷ [])) (kind_at target (names ++ name ∷ [])))
+scope-more job source target names name = each_front-more (λ front. enters job front (kind_at source front) (kind_at target front)) [] names name
+
+pub above-more : (job : Job) (source target : Tree) (names : Key) (name : List ℕ) → is_above_in_scope job source target (names ++ name ∷ []) ≡ is_in_scope job source target names
+above-more job source target names name = ap (λ o. option_map_or (is_in_scope job source target) o false) (parent-more names name)
+
+-- what is in scope is gone into
+pub entered : (job : Job) (source target : Tree) (key : Key) → is_in_scope job source target key ≡ true → enters job key (kind_at source key) (kind_at target key) ≡ true
+entered job source target key =
+    by_last (λ key. is_in_scope job source target key ≡ true → enters job key (kind_at source key) (kind_at target key) ≡ true)
+    (λ _. refl)
+    (λ names name _ is. second_of (is_in_scope job source target names) _ (sym (scope-more job source target names name) ∙ is))
+    key
+
+-- and below what is in scope
+pub scope-above : (job : Job) (source target : Tree) (key : Key) → key ≢ [] → is_in_scope job source target key ≡ true → is_above_in_scope job source target key ≡ true
+scope-above job source target key =
+    by_last (λ key. key ≢ [] → is_in_scope job source target key ≡ true → is_above_in_scope job source target key ≡ true)
+    (λ some _. absurd (some refl))
+    (λ names name _ _ is. above-more job source target names name ∙ first_of (is_in_scope job source target names) _ (sym (scope-more job source target names name) ∙ is))
+    key
+
+-- Files that are copied
+
+found : (test : Key → Bool) (all : List Key) → list_any test all ≡ true → (key : Key) × (test key ≡ true)
+found test [] e = absurd (true≢false (sym e))
+found test (key ∷ all) e =
+    elim (test key) as (λ b. test key ≡ b → (b || list_any test all) ≡ true → (key : Key) × (test key ≡ true)) [
+      | true ↦ λ is _. (key, is)
+      | false ↦ λ _ later. found test all later
+    ] refl e
+
+finds : (test : Key → Bool) (all : List Key) (key : Key) → list_any (eq_by_cmp key_cmp key) all ≡ true → test key ≡ true → list_any test all ≡ true
+finds test [] key e is = absurd (true≢false (sym e))
+finds test (other ∷ all) key e is =
+    elim (eq_by_cmp key_cmp key other) as (λ b. eq_by_cmp key_cmp key other ≡ b → (b || list_any (eq_by_cmp key_cmp key) all) ≡ true → (test other || list_any test all) ≡ true) [
+      | true ↦ λ same _. ap (λ b. b || list_any test all) (ap test (sym (same_key key other same)) ∙ is)
+      | false ↦ λ _ later. or_true (test other) (list_any test all) (finds test all key later is)
+    ] refl e
+  where
+    or_true : (a b : Bool) → b ≡ true → (a || b) ≡ true
+    or_true true b e = refl
+    or_true false b e = e
+
+front : (key names : Key) → take (length key) (key ++ names) ≡ key
+front [] names = refl
+front (name ∷ key) names = ap (λ rest. name ∷ rest) (front key names)
+
+whole : (n : ℕ) (key : Key) → take n key ++ drop n key ≡ key
+whole zero key = refl
+whole (suc n) [] = refl
+whole (suc n) (name ∷ key) = ap (λ rest. name ∷ rest) (whole n key)
+
+stands : (job : Job) (moment : ℕ) (key : Key) (source target : Option Node) → copies job moment key source target ≡ true → is_some source ≡ true
+stands job moment key None target e = e
+stands job moment key (Some node) target e = refl
+
+-- a file below a key that is copied is found from there
+pub copied_below : (job : Job) (source target : Tree) (moment : ℕ) (key names : Key) → is_copied job source target moment (key ++ names) ≡ true → some_copied job source target moment key ≡ true
+copied_below job source target moment key names is =
+    let below : is_at_or_below key (key ++ names) ≡ true = ap (λ k. eq_by_cmp key_cmp k key) (front key names) ∙ key_itself key in
+    let there : is_some (get source (key ++ names)) ≡ true = stands job moment (key ++ names) (get source (key ++ names)) (get target (key ++ names)) (first_of (copies job moment (key ++ names) (get source (key ++ names)) (get target (key ++ names))) _ is) in
+    finds (λ below. is_at_or_below key below && is_copied job source target moment below) (keys source) (key ++ names)
+    (sym (contains_key-keys source (key ++ names)) ∙ there)
+    (both_of (is_at_or_below key (key ++ names)) _ below is)
+
+-- and where one is found, there is such a file
+pub below_copied : (job : Job) (source target : Tree) (moment : ℕ) (key : Key) → some_copied job source target moment key ≡ true → (names : Key) × (is_copied job source target moment (key ++ names) ≡ true)
+below_copied job source target moment key is =
+    let at = found (λ below. is_at_or_below key below && is_copied job source target moment below) (keys source) is in
+    let same : take (length key) at.0 ≡ key = same_key (take (length key) at.0) key (first_of (is_at_or_below key at.0) _ at.1) in
+    let split : key ++ drop (length key) at.0 ≡ at.0 = ap (λ k. k ++ drop (length key) at.0) (sym same) ∙ whole (length key) at.0 in
+    (drop (length key) at.0, ap (λ k. is_copied job source target moment k) split ∙ second_of (is_at_or_below key at.0) _ at.1)
