@@ -3,9 +3,9 @@
 
 bench/first_path.py [SHAPE ..]    these shapes, or all of them, each once and then at double size
 
-For each text it prints the least processor time of seven runs of drill, that time over the one before, and the peak
-memory: over the text's size, and for each entry that the two trees have together in the end. The program has to be built:
-./run --build drill
+For each text it prints the least processor time of eleven runs of drill, that time over the one at half the size, and the
+peak memory: over the text's size, and for each entry that the two trees have together in the end. The runs of both sizes
+take turns, so that a slow moment of the machine meets both. The program has to be built: ./run --build drill
 """
 import argparse
 import hashlib
@@ -20,7 +20,7 @@ PROGRAM = Path(__file__).resolve().parent.parent / "crates" / "drill" / "out" / 
 MOMENT = "133485408000000000"
 BEFORE = "133485407990000000"
 MB = 1_000_000
-RUNS = 7
+RUNS = 11
 
 # what is measured: how many files of which size the source has, and what the target has beside them
 Shape = namedtuple("Shape", "about files size beside")
@@ -106,11 +106,13 @@ def check_output(out, shape, files):
 
 
 def measure(shape, folder):
-    before = None
-    for files in (shape.files, 2 * shape.files):
-        text = Path(folder) / "site"
+    sizes = [shape.files, 2 * shape.files]
+    texts = [Path(folder) / f"site{files}" for files in sizes]
+    for text, files in zip(texts, sizes):
         write_site(text, shape, files)
-        runs = [drill(text, shape, files) for _ in range(RUNS)]
+    turns = [[drill(text, shape, files) for text, files in zip(texts, sizes)] for _ in range(RUNS)]
+    before = None
+    for text, files, runs in zip(texts, sizes, zip(*turns)):
         seconds = min(run[0] for run in runs)
         peak = max(run[1] for run in runs)
         ratio = "" if before is None else f", {seconds / before:.2f} times the time before"

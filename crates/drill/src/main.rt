@@ -3,16 +3,12 @@
 #![tactic(auto)]
 
 mod adapters;
-#[cfg(test)]
-mod drill_tests;
 mod err;
 mod fields;
 mod host;
 mod reader;
 mod run;
 mod site_file;
-#[cfg(test)]
-mod tests;
 mod values;
 mod writer;
 

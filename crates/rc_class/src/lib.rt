@@ -15,8 +15,6 @@ mod laws;
 mod plan;
 mod props;
 mod rules;
-#[cfg(test)]
-mod tests;
 
 pub use class::{Class, class_of, same_attr};
 pub use decision::{Act, After, Reason};

@@ -7,8 +7,6 @@
 mod ages;
 mod laws;
 mod stamp;
-#[cfg(test)]
-mod tests;
 
 pub use ages::{DateErr, date_to_moment, days_before};
 pub use laws::one_text_a_moment;

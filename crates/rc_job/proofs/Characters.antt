@@ -1,5 +1,5 @@
 -- What appending bytes to a text does to its characters.
-use Rattle.std.proofs.Common.{◌≡◌, ℕ, ◌<◌, ltb, true, ◌&&◌, List, [], ◌∷◌, ◌++◌, length, ◌==◌, chars, refl, sym, ap, ◌∙◌, arith}
+use Rattle.std.proofs.Common.{◌≡◌, ℕ, ◌<◌, true, List, [], ◌∷◌, ◌++◌, length, ◌==◌, chars, refl, sym, ap, ◌∙◌, arith}
 use Rattle.std.specs.Char.{is_ascii}
 use Rattle.std.specs.List.{list_all}
 use Rattle.std.specs.Str.{IsUtf8, IsAscii}

@@ -1,2 +1,10 @@
+pub mod Blocks
 pub mod Characters
+pub mod Ends
+pub mod Letters
 pub mod LineLemmas
+pub mod OneJob
+pub mod Plain
+pub mod Read
+pub mod Table
+pub mod Written

@@ -4,14 +4,14 @@
 mod choices;
 mod flags;
 mod job;
+mod laws;
 mod lines;
 mod lists;
 mod rows;
-#[cfg(test)]
-mod tests;
 mod text;
 
 pub use choices::{Moving, Sub};
 pub use flags::{CopyFlags, DirectoryFlags};
 pub use job::Job;
+pub use laws::{a_core_text_has_one_decision, a_text_has_one_job, the_defaults_are_allowed};
 pub use lists::{Exclude, Excludes, Patterns};

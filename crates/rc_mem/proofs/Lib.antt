@@ -2,6 +2,7 @@ pub mod Filed
 pub mod Listings
 pub mod Maps
 pub mod Order
+pub mod Parents
 pub mod Placed
 pub mod Readers
 pub mod Sound

@@ -1,3 +1,4 @@
+pub mod Directories
 pub mod Held
 pub mod Listing
 pub mod Logged

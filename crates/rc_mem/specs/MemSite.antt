@@ -1,5 +1,7 @@
 -- What contracts see of a site in memory.
-use Rattle.std.specs.Prelude.{map}
+use Rattle.std.specs.Prelude.{◌≡◌, map, [], ◌∷◌}
+use Rattle.rc_volume.specs.declared.site.Side.TheVariants.{Source, Target}
+use Rattle.rc_volume.specs.Log.{notes_synced, synced}
 use Rattle.rc_volume.specs.Site.{Seen, Told}
 use Rattle.rc_mem.specs.declared.site.MemSite.{MemSite}
 use Rattle.rc_mem.specs.Logged.{event_of}
@@ -17,3 +19,10 @@ seen_by site = record {
   bound = site.bound.items;
   faults = λ _. 0;
 }
+
+-- a site on which no call came yet
+pub record IsFreshSite (told : Told) (seen : Seen) : Type 0 where
+  pub reads : seen.told ≡ told
+  pub log : seen.log ≡ synced Source told.source ∷ synced Target told.target ∷ notes_synced told.notes ∷ []
+  pub opened : seen.opened ≡ []
+  pub bound : seen.bound ≡ []

@@ -19,8 +19,6 @@ mod nodes;
 mod reader;
 mod sink;
 mod site;
-#[cfg(test)]
-mod tests;
 mod tree;
 mod wide;
 
@@ -33,6 +31,6 @@ pub use node::TreeNode;
 pub use nodes::Nodes;
 pub use reader::{MemReader, MemTally};
 pub use sink::MemSink;
-pub use site::MemSite;
+pub use site::{MemSite, log_change, log_notes};
 pub use tree::Tree;
 pub use wide::WideSite;

@@ -4,6 +4,7 @@ ghost use Rattle.std.specs.Prelude.{◌≡◌, ◌+◌, ◌<◌, ◌≤◌, None
 ghost use Rattle.rc_tree.specs.Name.{name_fault};
 ghost use Rattle.rc_tree.specs.Path.{last_name};
 ghost use Rattle.rc_volume.specs.Site.{entry_of, written_at, resized, with_props};
+ghost use Rattle.rc_mem.specs.Directories.{is_dir_kind};
 ghost use Rattle.rc_mem.specs.Nodes.{node_of, fresh_node};
 
 use crate::SharedBytes;
@@ -30,6 +31,30 @@ impl TreeNode {
             name: names[names.len() - 1].copy(alloc)?,
             kind: self.kind,
             size: self.bytes.as_slice().len() as u64,
+            props: self.props.copy(alloc)?,
+        })
+    }
+
+    /// Whether the node is a directory.
+    pub(crate) fn is_directory(&self) -> bool
+        ensures { result ≡ is_dir_kind self.now.kind }
+    {
+        match self.kind {
+            Kind::Dir => true,
+            Kind::File => false,
+        }
+    }
+
+    /// The same node. The bytes are shared.
+    pub fn copy(&self, alloc: Global) -> Result<TreeNode, NoMemory>
+        ensures path { IfOk result (λ copy. copy.path ≡ self.now.path) }
+        ensures kind { IfOk result (λ copy. copy.kind ≡ self.now.kind) }
+        ensures same { IfOk result (λ copy. node_of copy ≡ node_of self.now) }
+    {
+        Ok(TreeNode {
+            path: self.path.copy(alloc)?,
+            kind: self.kind,
+            bytes: self.bytes.share()?,
             props: self.props.copy(alloc)?,
         })
     }

@@ -314,8 +314,8 @@ impl Site for MemSite {
     fn absorb(&mut self, _tally: MemTally) {}
 }
 
-// Puts a call on an entry into a log.
-fn log_change(
+/// Puts a call on an entry into a log.
+pub fn log_change(
     log: &mut Vec<Logged>,
     side: Side,
     path: &Path,
@@ -333,8 +333,8 @@ fn log_change(
     log_event(log, Logged::Changed { side, path, call })
 }
 
-// Puts a call on the record into a log.
-fn log_notes(log: &mut Vec<Logged>, call: NotesCall) -> Result<(), SiteErr>
+/// Puts a call on the record into a log.
+pub fn log_notes(log: &mut Vec<Logged>, call: NotesCall) -> Result<(), SiteErr>
     ensures logged { OnOk result (map event_of log.new.items
         ≡ map event_of log.old.items ++ noted (notes_call_of call) ∷ []) }
     ensures only { LogsOn Part.Record (map event_of log.old.items) (map event_of log.new.items) }

@@ -1,6 +1,6 @@
 //! A tree in memory.
 
-ghost use Rattle.std.specs.Prelude.{◌≡◌, ◌+◌, ◌≤◌, ◌<◌, ⊤, [], ◌∷◌, ◌++◌, map, length, All, IsTrue, false, IsSome, IfSome, IsSomeAnd, IfOk, OnOk, OnErr, MatchOption, option_map};
+ghost use Rattle.std.specs.Prelude.{◌≡◌, ◌+◌, ◌≤◌, ◌<◌, ⊤, [], ◌∷◌, ◌++◌, map, length, All, IsTrue, false, IsSome, IfSome, IsSomeAnd, IfOk, OnOk, OnErr, MatchOption, option_map, true, None};
 ghost use Rattle.std.specs.Option.{option_copied};
 ghost use Rattle.std.specs.FinMap.{entries, empty, insert, get};
 ghost use Rattle.std.specs.declared.cmp.Ordering.TheVariants.{Less};
@@ -8,6 +8,7 @@ ghost use Rattle.rc_tree.specs.declared.attr.Kind.TheVariants.{Dir};
 ghost use Rattle.rc_tree.specs.Path.{key_of, key_cmp, last_name, parent_of};
 ghost use Rattle.rc_tree.specs.Tree.{IsDirectory, IsTree};
 ghost use Rattle.rc_volume.specs.Site.{Becomes, Comes, Goes, HasFile, IsListed, IsRemovable, IsVacant, IsEnd, Lists, bytes_in, entry_of, resized, with_props, written_at};
+ghost use Rattle.rc_mem.specs.Directories.{dir_above, is_dir};
 ghost use Rattle.rc_mem.specs.Nodes.{IsSpelledIn, at_key, fresh_node, node_of};
 ghost use Rattle.rc_mem.specs.Held.{AltersAt, IsPlaced, IsSound, tree_held};
 ghost use Rattle.rc_mem.specs.Listing.{IsChildOf, ShowsNext};
@@ -62,6 +63,19 @@ impl Tree {
         ensures added { OnOk result (self.new ≡ insert self.old (key_of node.path) (node_of node)) }
         ensures err { OnErr result (self.new ≡ self.old) }
     {
+        self.place(alloc, node)
+    }
+
+    /// Puts a node where nothing stands, in the root or in a directory, and without bytes where it is a directory. It is
+    /// spelled as its directory is. After an error the tree is as it was.
+    pub fn place(&mut self, alloc: Global, node: TreeNode) -> Result<(), NoMemory>
+        requires absent { get self.old (key_of node.path) ≡ None }
+        requires parent { IsSomeAnd (parent_of node.path)
+            (λ parent. IsDirectory self.old (key_of parent)) }
+        requires no_bytes { node.kind ≡ Dir → node.bytes ≡ [] }
+        ensures added { OnOk result (self.new ≡ insert self.old (key_of node.path) (node_of node)) }
+        ensures err { OnErr result (self.new ≡ self.old) }
+    {
         let own = self.spelled(alloc, &node.path)?;
         let node = TreeNode { path: own, ..node };
         self.nodes.insert(node.path.key(alloc)?, node)?;
@@ -105,6 +119,32 @@ impl Tree {
         self.keeps_shape();
         let key = path.key(alloc)?;
         Ok(self.at(&key))
+    }
+
+    /// Whether a path is the root, or a directory stands there.
+    pub fn is_directory(&self, alloc: Global, path: &Path) -> Result<bool, NoMemory>
+        ensures { IfOk result (λ is. is ≡ is_dir self.now (key_of path.now)) }
+    {
+        if path.names().is_empty() {
+            return Ok(true);
+        }
+        match self.get(alloc, path)? {
+            Some(node) => Ok(node.is_directory()),
+            None => Ok(false),
+        }
+    }
+
+    /// Whether the directory is there in which an entry at this path would stand.
+    pub fn has_parent(&self, alloc: Global, path: &Path) -> Result<bool, NoMemory>
+        ensures computed { IfOk result
+            (λ has. has ≡ dir_above self.now (parent_of (key_of path.now))) }
+        ensures stands { IfOk result (λ has. has ≡ true → IsSomeAnd (parent_of path.now)
+            (λ parent. IsDirectory self.now (key_of parent))) }
+    {
+        match path.parent(alloc)? {
+            Some(parent) => self.is_directory(alloc, &parent),
+            None => Ok(false),
+        }
     }
 
     /// What a listing of a directory shows next behind the name `after`.

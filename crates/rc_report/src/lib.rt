@@ -7,8 +7,6 @@
 
 mod lines;
 mod report;
-#[cfg(test)]
-mod tests;
 mod totals;
 
 pub use report::report_to;

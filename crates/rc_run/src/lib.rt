@@ -9,8 +9,6 @@ mod filling;
 mod finishing;
 mod outcome;
 mod run;
-#[cfg(test)]
-mod tests;
 mod words;
 
 pub use outcome::{Outcome, Unbuilt, outcome_text, status};

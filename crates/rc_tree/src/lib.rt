@@ -15,8 +15,6 @@ mod name;
 mod path;
 mod props;
 mod security;
-#[cfg(test)]
-mod tests;
 mod text;
 
 pub use attr::{Attr, Kind};

@@ -1,3 +1,2 @@
 pub mod ImageLemmas
 pub mod ReadLemmas
-pub mod RowLemmas

@@ -3,6 +3,5 @@ pub mod Frames
 pub mod Images
 pub mod Log
 pub mod Reading
-pub mod Rows
 pub mod Site
 pub mod Streams

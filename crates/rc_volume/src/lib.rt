@@ -17,8 +17,6 @@ pub mod laws;
 mod reader;
 mod sink;
 mod site;
-#[cfg(test)]
-mod tests;
 mod want;
 
 pub use binding::Binding;

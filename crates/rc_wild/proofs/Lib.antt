@@ -1,5 +1,5 @@
 mod Cases
-mod Chars
+pub mod Chars
 mod Cuts
 mod Folding
 mod Turns

@@ -12,8 +12,6 @@ mod laws;
 mod parts;
 mod path_pattern;
 mod pattern;
-#[cfg(test)]
-mod tests;
 mod text;
 mod walk;
 

@@ -1,5 +1,5 @@
 -- A text has no character where it has no byte.
-use Rattle.std.proofs.Common.{◌≡◌, ℕ, List, length, eqb, chars, string_bytes, ap, ◌∙◌}
+use Rattle.std.proofs.Common.{ℕ, List, length, eqb, chars, ap, ◌∙◌}
 use Rattle.rc_job.proofs.Characters.{empty_chars}
 use Rattle.rc_job.proofs.lines.Lines.is_empty.Goals as goal
 

@@ -1,0 +1,5 @@
+pub mod Draws
+pub mod Growing
+pub mod KeptSteps
+pub mod Lefts
+pub mod Picks

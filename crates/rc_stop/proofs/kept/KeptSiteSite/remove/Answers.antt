@@ -1,0 +1,20 @@
+use Rattle.std.proofs.Common.{refl}
+use Rattle.rc_tree.specs.Path.{key_of}
+use Rattle.rc_volume.specs.Log.{remove}
+use Rattle.rc_volume.specs.Site.{Goes, Maybe, node_at}
+use Rattle.rc_volume.proofs.ReadLemmas.{remove_steps}
+use Rattle.rc_mem.specs.MemSite.{seen_by}
+use Rattle.rc_stop.proofs.KeptSteps.{kept-behind}
+use Rattle.rc_stop.proofs.kept.KeptSiteSite.remove.Goals as goal
+
+pub invariant_of-self : goal.invariant_of-self
+invariant_of-self c =
+    let O = c.self.inside.behind in
+    let N = c.remove-answer.new.self in
+    let side = c.args.side in
+    let path = c.args.path.now in
+    let frame = c.remove-answer.ensures.frame in
+    kept-behind O N c.self.inside.source c.self.inside.target c.self.inside.notes c.self.inside.touched.items c.touch.new.touched.items c.settle.new.touched.items side path (remove)
+    c.log_len-before.result c.self.invariant c.log_len-before.ensures (record { noted = c.in-Ok.ensures.touched; stood = c.settle.ensures.stood; came = c.settle.ensures.came })
+    (frame.log refl) (frame.elsewhere refl) (remove_steps c.remove-answer.result (node_at (seen_by O).told side (key_of path)) (node_at (seen_by N).told side (key_of path)) (frame.here refl)) tt c.settle.ensures.source c.settle.ensures.target c.remove-answer.result
+    (Goes) (Maybe Goes) (frame.here refl) (c.remove-answer.ensures.log refl)

@@ -1,0 +1,5 @@
+pub mod Grown
+pub mod Kept
+pub mod KeptSite
+pub mod Stopping
+pub mod Stops

@@ -1,0 +1,18 @@
+//! Worked rows of the calls on values: names, patterns, dates, words, jobs, classes and decisions. They stand apart from
+//! the crates that they call, which are so proved once and not once more for their tests.
+#![tactic(auto)]
+
+#[cfg(test)]
+mod classes;
+#[cfg(test)]
+mod dates;
+#[cfg(test)]
+mod decisions;
+#[cfg(test)]
+mod jobs;
+#[cfg(test)]
+mod names;
+#[cfg(test)]
+mod patterns;
+#[cfg(test)]
+mod words;

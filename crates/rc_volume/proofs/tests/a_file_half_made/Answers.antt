@@ -1,5 +1,0 @@
-use Rattle.rc_volume.proofs.RowLemmas.{half_absent, half_empty, half_no_longer, half_other}
-use Rattle.rc_volume.proofs.tests.a_file_half_made.Goals as goal
-
-pub returns : goal.returns
-returns c = record { absent = half_absent; empty = half_empty; other_bytes = half_other; no_longer = half_no_longer }

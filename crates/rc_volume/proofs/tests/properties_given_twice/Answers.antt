@@ -1,5 +1,0 @@
-use Rattle.rc_volume.proofs.RowLemmas.{props_mixed, props_none_else}
-use Rattle.rc_volume.proofs.tests.properties_given_twice.Goals as goal
-
-pub returns : goal.returns
-returns c = record { mixed = props_mixed; none_else = props_none_else }
