@@ -22,8 +22,9 @@ BEFORE = "133485407990000000"
 MB = 1_000_000
 RUNS = 11
 
-# what is measured: how many files of which size the source has, and what the target has beside them
-Shape = namedtuple("Shape", "about files size beside")
+# what is measured: how many files of which size the source has, what the target has beside them, and in which folder of the
+# source a file stands, by its number
+Shape = namedtuple("Shape", "about files size beside folder", defaults=(lambda number: (),))
 
 SHAPES = {
     "short": Shape("files of 1 KiB, nothing on the target", 10_000, 1024, None),
@@ -32,6 +33,20 @@ SHAPES = {
     "before": Shape("files without bytes before as many extras", 40_000, 0, "g{:08}"),
     "between": Shape("files without bytes between as many extras", 40_000, 0, "f{:08}x"),
     "long": Shape("few files of 5 MB, nothing on the target", 5, 5 * MB, None),
+    "folders": Shape(
+        "files without bytes, a hundred in each folder, nothing on the target",
+        20_000,
+        0,
+        None,
+        lambda number: (f"d{number // 100:06}",),
+    ),
+    "deep": Shape(
+        "files without bytes in one folder below 58 others, nothing on the target",
+        20_000,
+        0,
+        None,
+        lambda number: ("a",) * 59,
+    ),
 }
 
 
@@ -44,8 +59,24 @@ def file_line(name, written, data):
     return "\t".join(["F", name, "A", MOMENT, written, "-", "-", "-", str(len(data)), data.hex() or "-"]) + "\n"
 
 
-def source_line(number, size, letter="f"):
-    return file_line(f"{letter}{number:08}", MOMENT, content(number, size))
+def folder_line(names):
+    return "\t".join(["D", "\\".join(names), "-", MOMENT, MOMENT, "-", "-", "-"]) + "\n"
+
+
+def source_line(number, shape, letter="f"):
+    path = "\\".join([*shape.folder(number), f"{letter}{number:08}"])
+    return file_line(path, MOMENT, content(number, shape.size))
+
+
+def new_folders(shape, number):
+    """The folders that come before a file, and before no file in front of it."""
+    known = shape.folder(number - 1) if number > 0 else ()
+    names = shape.folder(number)
+    return [names[:count] for count in range(1, len(names) + 1) if names[:count] != known[:count]]
+
+
+def folder_count(shape, files):
+    return sum(len(new_folders(shape, number)) for number in range(files))
 
 
 def target_lines(shape, files):
@@ -62,7 +93,8 @@ def wanted_lines(shape, files):
     letter = "F" if shape.beside == "standing" else "f"
     extras = target_lines(shape, files) if shape.beside and shape.beside != "standing" else iter(())
     for number in range(files):
-        yield source_line(number, shape.size, letter)
+        yield from map(folder_line, new_folders(shape, number))
+        yield source_line(number, shape, letter)
         if shape.beside == SHAPES["between"].beside:
             yield next(extras)
     yield from extras
@@ -71,7 +103,9 @@ def wanted_lines(shape, files):
 def write_site(path, shape, files):
     with open(path, "w", newline="\n") as out:
         out.write(f"SITE\t1\nMOMENT\t{MOMENT}\nSOURCE\n")
-        out.writelines(source_line(number, shape.size) for number in range(files))
+        for number in range(files):
+            out.writelines(map(folder_line, new_folders(shape, number)))
+            out.write(source_line(number, shape))
         out.write("TARGET\n")
         out.writelines(target_lines(shape, files))
         out.write("RECORD\t-\nEND\n")
@@ -80,7 +114,7 @@ def write_site(path, shape, files):
 def drill(text, shape, files):
     """Runs drill over a site text, and gives its seconds and its peak memory in bytes."""
     with open(text, "rb") as site, tempfile.TemporaryFile() as out:
-        program = subprocess.Popen([PROGRAM, "SRC", "DST"], stdin=site, stdout=out)
+        program = subprocess.Popen([PROGRAM, "SRC", "DST", "/S"], stdin=site, stdout=out)
         _, status, usage = os.wait4(program.pid, 0)
         seconds = usage.ru_utime + usage.ru_stime
         program.returncode = os.waitstatus_to_exitcode(status)
@@ -117,7 +151,7 @@ def measure(shape, folder):
         peak = max(run[1] for run in runs)
         ratio = "" if before is None else f", {seconds / before:.2f} times the time before"
         size = text.stat().st_size
-        entries = 2 * files + (files if shape.beside and shape.beside != "standing" else 0)
+        entries = 2 * (files + folder_count(shape, files)) + (files if shape.beside and shape.beside != "standing" else 0)
         print(
             f"    {files:,} files: {size / MB:.1f} MB, {seconds:.2f} s{ratio}; peak {peak / MB:.0f} MB,"
             f" {peak / size:.2f} of the text, {peak / entries:,.0f} bytes an entry",

@@ -1,6 +1,7 @@
 -- What a drill read, how its run ended, and what it wrote.
 use Rattle.std.proofs.Common.{◌≡◌, ◌⊎◌, ℕ, ◌+◌, ◌<◌, ◌≤◌, Bool, true, false, List, [], ◌∷◌, ◌++◌, length, drop, Option, Some, None, Result, Ok, Err, inl, inr, refl, sym, ap, subst, ◌∙◌, arith, true≢false}
-use Rattle.std.specs.Prelude.{IfErr, IfOk, OnOk, if◌then◌else◌}
+use Rattle.std.specs.Prelude.{IfErr, IfOk, OnOk, nat_lt, option_map, if◌then◌else◌}
+use Rattle.std.specs.List.{count_by}
 use Rattle.std.specs.Str.{IsUtf8, chars, encode_utf8_all}
 use Rattle.std.proofs.lemmas.Str.{encodes-chars}
 use Rattle.std.proofs.lemmas.List.{append-nil, drop_all, drop-append-le, drop-drop, length-append}
@@ -12,23 +13,26 @@ use Rattle.rc_mem.specs.declared.site.MemSite.{MemSite}
 use Rattle.rc_mem.specs.MemSite.{told_by}
 use Rattle.rc_run.specs.declared.outcome.Outcome.{Outcome}
 use Rattle.rc_run.specs.declared.outcome.Outcome.TheVariants as out
-use Rattle.rc_run.specs.declared.outcome.Unbuilt.{Unbuilt}
 use Rattle.rc_run.specs.declared.outcome.Unbuilt.TheVariants as unbuilt
-use Rattle.rc_run.specs.declared.words.Request.{Request}
-use Rattle.rc_run.specs.Answers.{AreBitsOf, IsExpected, RunLeaves, Sends, is_empty, site_refusal, start_refusal}
+use Rattle.rc_run.specs.Answers.{AreBitsOf, IsExpected, RunLeaves, Sends, is_empty, site_refusal, start_refusal, unplanned}
 use Rattle.rc_run.specs.Goal.{IsMirrored, items_at}
 use Rattle.rc_run.specs.Outcome.{IfDone, at_copies, at_end, at_report, ending, finished, first_step, last_step, status_of}
 use Rattle.rc_report.specs.Report.{bits_of, totals_of}
 use Rattle.rc_run.specs.Words.{asked}
-use Rattle.rc_plan.specs.Plan.{start_in}
-use Rattle.rc_plan.specs.Roots.{are_built}
+use Rattle.rc_class.specs.declared.item.Item.{Item}
+use Rattle.rc_filter.specs.Decided.{planned_items}
+use Rattle.rc_plan.specs.declared.plan.PlanErr.{PlanErr}
+use Rattle.rc_plan.specs.declared.plan.PlanErr.TheVariants as plan_err
+use Rattle.rc_plan.specs.Limits.{first_too_big, has_source, has_target, limit_of, too_big}
+use Rattle.rc_plan.specs.Plan.{limit_in, start_in}
+use Rattle.rc_volume.specs.declared.site.Side.TheVariants as side
 use Rattle.rc_job.specs.declared.job.Job.{Job}
-use Rattle.drill.specs.declared.err.SiteTextErr.{SiteTextErr}
-use Rattle.drill.specs.declared.err.SiteTextErr.TheVariants as err
+use Rattle.rc_sitetext.specs.declared.err.SiteTextErr.{SiteTextErr}
+use Rattle.rc_sitetext.specs.declared.err.SiteTextErr.TheVariants as err
 use Rattle.drill.specs.declared.run.Stop.{Stop}
 use Rattle.drill.specs.declared.run.Stop.TheVariants.{Input, SiteText, NoMemory}
 use Rattle.drill.specs.declared.run.TheConstants.{GREATEST_TEXT}
-use Rattle.drill.specs.declared.site_file.SiteFile.{SiteFile}
+use Rattle.rc_sitetext.specs.declared.site_file.SiteFile.{SiteFile}
 use Rattle.drill.specs.Drilling.{Drills, IsCutIn, IsNoSite, IsSiteText, OfSome, Prints, WritesOut, WritesOne, drill_text, told_of, whole_line}
 use Rattle.drill.specs.Finishing.{Ends, refusal_line, stop_failed}
 
@@ -170,7 +174,7 @@ start_is file start notes e empty = e ∙ ap (with_notes file) empty
 pub never : RoseBy 1 0 0 → ⊥
 never h = omega (arith, h)
 
-refused_end : (words : List (List ℕ)) (moment : ℕ) (start now : Told) (outcome : Outcome) (report : List ℕ) → start_refusal (asked words) start ≡ Some outcome → report ≡ [] → now ≡ start
+refused_end : (words : List (List ℕ)) (moment : ℕ) (start now : Told) (outcome : Outcome) (report : List ℕ) → start_refusal (asked words) start moment ≡ Some outcome → report ≡ [] → now ≡ start
     → Ends words moment start (drill_text moment (record { report = report; outcome = outcome; now = now })) (status_of outcome)
 refused_end words moment start now outcome report refused silent same = inl (record {
   end = record { report = report; outcome = outcome; now = now };
@@ -184,29 +188,39 @@ finished_done : (outcome : Outcome) → ending outcome ≡ finished → (bits : 
 finished_done (out.Done bits at) e = (bits, at, refl)
 finished_done _ e = cc
 
--- a site is refused before anything is copied or reported
-refused_early : (job : Job) (told : Told) (refusal : Outcome) → site_refusal job told ≡ Some refusal → last_step (ending refusal) < at_copies
-refused_early job told refusal e = by (is_empty told.notes) (are_built job told) e
+-- a site is refused before anything is changed or reported
+limit_early : (with_bytes : Bool) (items : List Item) (e : PlanErr) → limit_of with_bytes items ≡ Some e → last_step (ending (unplanned e)) < at_copies
+limit_early with_bytes items (plan_err.TooMany side count) is = omega arith
+limit_early with_bytes items (plan_err.TooBig path size) is = omega arith
+limit_early with_bytes items (plan_err.ListFault side) is = omega arith
+limit_early with_bytes items plan_err.NoMemory is = absurd (no_memory (nat_lt 500000 (count_by has_source items)) (nat_lt 500000 (count_by has_target items)) with_bytes (first_too_big items) is)
+  where
+    no_memory : (many theirs bytes : Bool) (big : Option Item) → (if many then Some (plan_err.TooMany side.Source 500001) else if theirs then Some (plan_err.TooMany side.Target 500001) else if bytes then too_big big else None) ≡ Some plan_err.NoMemory → ⊥
+    no_memory true theirs bytes big e = cc
+    no_memory false true bytes big e = cc
+    no_memory false false true None e = cc
+    no_memory false false true (Some item) e = cc
+    no_memory false false false big e = cc
+
+refused_early : (job : Job) (told : Told) (moment : ℕ) (refusal : Outcome) → site_refusal job told moment ≡ Some refusal → last_step (ending refusal) < at_copies
+refused_early job told moment refusal e = by (is_empty told.notes) (limit_in job told moment) refl e
   where
     same : (x y : Outcome) → Some x ≡ Some y → x ≡ y
     same x y h = cc
 
-    early : (what : Unbuilt) → out.NotYet what ≡ refusal → last_step (ending (out.NotYet what)) < at_copies → last_step (ending refusal) < at_copies
-    early what h l = subst (λ (o : Outcome). last_step (ending o) < at_copies) h l
-
-    by : (b c : Bool) → (if b then (if c then None else Some (out.NotYet unbuilt.Trees)) else Some (out.NotYet unbuilt.Record)) ≡ Some refusal → last_step (ending refusal) < at_copies
-    by true true h = cc
-    by true false h = early unbuilt.Trees (same _ _ h) (omega arith)
-    by false c h = early unbuilt.Record (same _ _ h) (omega arith)
+    by : (b : Bool) (passed : Option PlanErr) → limit_in job told moment ≡ passed → (if b then option_map unplanned passed else Some (out.NotYet unbuilt.Record)) ≡ Some refusal → last_step (ending refusal) < at_copies
+    by true None is h = cc
+    by true (Some e) is h = subst (λ (o : Outcome). last_step (ending o) < at_copies) (same (unplanned e) refusal h) (limit_early job.copy.data_bytes (planned_items job told.source told.target moment) e is)
+    by false passed is h = subst (λ (o : Outcome). last_step (ending o) < at_copies) (same (out.NotYet unbuilt.Record) refusal h) (omega arith)
 
 -- what a run over a site in memory says, of which nothing fails
 pub record Runs (words : List (List ℕ)) (moment : ℕ) (start now : Told) (outcome : Outcome) (before report : List ℕ) : Type 0 where
   pub untouched : IfErr (asked words) (λ refusal. (now ≡ start) × (report ≡ before))
-  pub expected : IsExpected (start_refusal (asked words) start) outcome
-  pub leaves : IfOk (asked words) (λ request. RunLeaves request.job moment start now outcome)
-  pub sends : IfOk (asked words) (λ request. Sends request.job moment start outcome before report)
-  pub reported : IfOk (asked words) (λ request. (report ≡ before) ⊎ IsMirrored (start_in request.job start) moment now)
-  pub bits : IfOk (asked words) (λ request. IfDone outcome (AreBitsOf request.job start))
+  pub expected : IsExpected (start_refusal (asked words) start moment) outcome
+  pub leaves : IfOk (asked words) (λ job. RunLeaves job moment start now outcome)
+  pub sends : IfOk (asked words) (λ job. Sends job moment start outcome before report)
+  pub reported : IfOk (asked words) (λ job. (report ≡ before) ⊎ IsMirrored (start_in job start) moment now)
+  pub bits : IfOk (asked words) (λ job. IfDone outcome (AreBitsOf job start))
   pub begun : IfDone outcome (λ bits at. at ≡ moment)
   pub silent : last_step (ending outcome) < at_report → report ≡ before
 
@@ -223,37 +237,37 @@ cut_end words moment start now outcome report r same = inr (record {
   answer = refl;
 })
   where
-    by_refusal : (a : Result Request Outcome) → IfErr a (λ refusal. (now ≡ start) × (report ≡ [])) → IfErr a (λ refusal. (report ≡ []) × (now ≡ start))
-    by_refusal (Ok request) h = tt
+    by_refusal : (a : Result Job Outcome) → IfErr a (λ refusal. (now ≡ start) × (report ≡ [])) → IfErr a (λ refusal. (report ≡ []) × (now ≡ start))
+    by_refusal (Ok job) h = tt
     by_refusal (Err refusal) h = (h.1, h.0)
 
-    by_request : (a : Result Request Outcome) → IfOk a (λ request. RunLeaves request.job moment start now outcome) → IfOk a (λ request. Sends request.job moment start outcome [] report) → IfOk a (λ request. (report ≡ []) ⊎ IsMirrored (start_in request.job start) moment now)
-        → IfOk a (λ request. IsCutIn request.job moment start (record { report = report; outcome = outcome; now = now }))
-    by_request (Ok request) leaves sends reported = record {
-      leaves = subst (λ (o : Outcome). RunLeaves request.job moment start now o) same leaves;
+    by_request : (a : Result Job Outcome) → IfOk a (λ job. RunLeaves job moment start now outcome) → IfOk a (λ job. Sends job moment start outcome [] report) → IfOk a (λ job. (report ≡ []) ⊎ IsMirrored (start_in job start) moment now)
+        → IfOk a (λ job. IsCutIn job moment start (record { report = report; outcome = outcome; now = now }))
+    by_request (Ok job) leaves sends reported = record {
+      leaves = subst (λ (o : Outcome). RunLeaves job moment start now o) same leaves;
       report = sends.front;
       reported = reported;
     }
     by_request (Err refusal) leaves sends reported = tt
 
-done_end : (words : List (List ℕ)) (moment : ℕ) (start now : Told) (outcome : Outcome) (report : List ℕ) (request : Request) → Runs words moment start now outcome [] report → asked words ≡ Ok request → site_refusal request.job start ≡ None → ending outcome ≡ finished
+done_end : (words : List (List ℕ)) (moment : ℕ) (start now : Told) (outcome : Outcome) (report : List ℕ) (job : Job) → Runs words moment start now outcome [] report → asked words ≡ Ok job → site_refusal job start moment ≡ None → ending outcome ≡ finished
     → Ends words moment start (drill_text moment (record { report = report; outcome = outcome; now = now })) (status_of outcome)
-done_end words moment start now outcome report request r asks accepted done =
+done_end words moment start now outcome report job r asks accepted done =
     let at = finished_done outcome done in
-    let bits : IfDone outcome (AreBitsOf request.job start) = subst (λ (a : Result Request Outcome). IfOk a (λ q. IfDone outcome (AreBitsOf q.job start))) asks r.bits in
-    let sends : Sends request.job moment start outcome [] report = subst (λ (a : Result Request Outcome). IfOk a (λ q. Sends q.job moment start outcome [] report)) asks r.sends in
-    let leaves : RunLeaves request.job moment start now outcome = subst (λ (a : Result Request Outcome). IfOk a (λ q. RunLeaves q.job moment start now outcome)) asks r.leaves in
+    let bits : IfDone outcome (AreBitsOf job start) = subst (λ (a : Result Job Outcome). IfOk a (λ q. IfDone outcome (AreBitsOf q start))) asks r.bits in
+    let sends : Sends job moment start outcome [] report = subst (λ (a : Result Job Outcome). IfOk a (λ q. Sends q moment start outcome [] report)) asks r.sends in
+    let leaves : RunLeaves job moment start now outcome = subst (λ (a : Result Job Outcome). IfOk a (λ q. RunLeaves q moment start now outcome)) asks r.leaves in
     let begun : at.1 ≡ moment = subst (λ (o : Outcome). IfDone o (λ b m. m ≡ moment)) at.2 r.begun in
-    let counted : AreBitsOf request.job start at.0 at.1 = subst (λ (o : Outcome). IfDone o (AreBitsOf request.job start)) at.2 bits in
+    let counted : AreBitsOf job start at.0 at.1 = subst (λ (o : Outcome). IfDone o (AreBitsOf job start)) at.2 bits in
     inl (record {
       end = record { report = report; outcome = outcome; now = now };
       ends = inr (record {
-        request = request;
+        job = job;
         asks = asks;
         accepted = accepted;
         outcome =
             at.2 ∙ ap (λ (m : ℕ). out.Done at.0 m) begun
-            ∙ ap (λ (b : ℕ). out.Done b moment) (counted ∙ ap (λ (m : ℕ). bits_of (totals_of (items_at request.job start m))) begun);
+            ∙ ap (λ (b : ℕ). out.Done b moment) (counted ∙ ap (λ (m : ℕ). bits_of (totals_of (items_at job start m))) begun);
         report = sends.whole done;
         now = leaves.mirrored (let e : first_step (ending outcome) ≡ at_end = ap first_step done in omega (arith, e));
       });
@@ -266,22 +280,22 @@ ends : (words : List (List ℕ)) (moment : ℕ) (start now : Told) (outcome : Ou
     → Ends words moment start (drill_text moment (record { report = report; outcome = outcome; now = now })) (status_of outcome)
 ends words moment start now outcome report r = by_asked (asked words) refl r.expected r.untouched r.leaves
   where
-    by_asked : (a : Result Request Outcome) → asked words ≡ a → IsExpected (start_refusal a start) outcome → IfErr a (λ refusal. (now ≡ start) × (report ≡ [])) → IfOk a (λ request. RunLeaves request.job moment start now outcome)
+    by_asked : (a : Result Job Outcome) → asked words ≡ a → IsExpected (start_refusal a start moment) outcome → IfErr a (λ refusal. (now ≡ start) × (report ≡ [])) → IfOk a (λ job. RunLeaves job moment start now outcome)
         → Ends words moment start (drill_text moment (record { report = report; outcome = outcome; now = now })) (status_of outcome)
     by_asked (Err refusal) e (inl same) untouched leaves =
-        refused_end words moment start now outcome report (ap (λ (a : Result Request Outcome). start_refusal a start) e ∙ ap (λ (o : Outcome). Some o) (sym same)) untouched.1 untouched.0
+        refused_end words moment start now outcome report (ap (λ (a : Result Job Outcome). start_refusal a start moment) e ∙ ap (λ (o : Outcome). Some o) (sym same)) untouched.1 untouched.0
     by_asked (Err refusal) e (inr memory) untouched leaves = cut_end words moment start now outcome report r memory
-    by_asked (Ok request) e expected untouched leaves = by_site (site_refusal request.job start) refl expected
+    by_asked (Ok job) e expected untouched leaves = by_site (site_refusal job start moment) refl expected
       where
-        refused_so : (refusal : Outcome) → site_refusal request.job start ≡ Some refusal → outcome ≡ refusal
+        refused_so : (refusal : Outcome) → site_refusal job start moment ≡ Some refusal → outcome ≡ refusal
             → Ends words moment start (drill_text moment (record { report = report; outcome = outcome; now = now })) (status_of outcome)
         refused_so refusal found same =
-            let early : last_step (ending outcome) < at_copies = subst (λ (o : Outcome). last_step (ending o) < at_copies) (sym same) (refused_early request.job start refusal found) in
-            refused_end words moment start now outcome report (ap (λ (a : Result Request Outcome). start_refusal a start) e ∙ found ∙ ap (λ (o : Outcome). Some o) (sym same)) (r.silent (omega (arith, early))) (leaves.unchanged early)
+            let early : last_step (ending outcome) < at_copies = subst (λ (o : Outcome). last_step (ending o) < at_copies) (sym same) (refused_early job start moment refusal found) in
+            refused_end words moment start now outcome report (ap (λ (a : Result Job Outcome). start_refusal a start moment) e ∙ found ∙ ap (λ (o : Outcome). Some o) (sym same)) (r.silent (omega (arith, early))) (leaves.unchanged early)
 
-        by_site : (found : Option Outcome) → site_refusal request.job start ≡ found → IsExpected found outcome
+        by_site : (found : Option Outcome) → site_refusal job start moment ≡ found → IsExpected found outcome
             → Ends words moment start (drill_text moment (record { report = report; outcome = outcome; now = now })) (status_of outcome)
-        by_site None found (inl done) = done_end words moment start now outcome report request r e found done
+        by_site None found (inl done) = done_end words moment start now outcome report job r e found done
         by_site None found (inr memory) = cut_end words moment start now outcome report r memory
         by_site (Some refusal) found (inl same) = refused_so refusal found same
         by_site (Some refusal) found (inr memory) = cut_end words moment start now outcome report r memory
@@ -296,8 +310,8 @@ ends_so words moment last file start now outcome before report at is none r =
     (subst (λ (s : Told). Runs words last s now outcome before report) is r)))
 
 -- a site that is the one that was handed in tells the same
-pub told_same : (a : Result Request Outcome) (site end : MemSite) (before report : List ℕ) (more : Type 0) → IfErr a (λ refusal. (end ≡ site) × (report ≡ before) × more) → IfErr a (λ refusal. (told_by end ≡ told_by site) × (report ≡ before))
-told_same (Ok request) site end before report more h = tt
+pub told_same : (a : Result Job Outcome) (site end : MemSite) (before report : List ℕ) (more : Type 0) → IfErr a (λ refusal. (end ≡ site) × (report ≡ before) × more) → IfErr a (λ refusal. (told_by end ≡ told_by site) × (report ≡ before))
+told_same (Ok job) site end before report more h = tt
 told_same (Err refusal) site end before report more h = (ap told_by h.0, h.1)
 
 -- Drills

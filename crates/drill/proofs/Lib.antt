@@ -1,15 +1,2 @@
-pub mod Appends
-pub mod ByteSpells
-pub mod Cuts
 pub mod Drills
-pub mod FieldValues
-pub mod FileLaws
-pub mod HexLaws
-pub mod LineSteps
-pub mod Plain
-pub mod Printable
-pub mod Rising
-pub mod Sends
-pub mod SiteLaws
-pub mod Spells
 pub mod Streams

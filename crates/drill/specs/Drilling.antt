@@ -6,7 +6,6 @@ use Rattle.rc_volume.specs.Site.{Told}
 use Rattle.rc_volume.specs.Streams.{AppendsFront}
 use Rattle.rc_run.specs.declared.outcome.Outcome.{Outcome}
 use Rattle.rc_run.specs.declared.outcome.Outcome.TheVariants.{Done, NoMemory}
-use Rattle.rc_run.specs.declared.words.Request.{Request}
 use Rattle.rc_run.specs.Answers.{RunLeaves, site_refusal, start_refusal}
 use Rattle.rc_run.specs.Goal.{IsMirrored, items_at}
 use Rattle.rc_run.specs.Outcome.{line_of, status_of}
@@ -14,8 +13,8 @@ use Rattle.rc_run.specs.Words.{asked}
 use Rattle.rc_plan.specs.Plan.{start_in}
 use Rattle.rc_report.specs.Report.{bits_of, report_of, totals_of}
 use Rattle.drill.specs.declared.run.TheConstants.{GREATEST_TEXT}
-use Rattle.drill.specs.declared.site_file.SiteFile.{SiteFile}
-use Rattle.drill.specs.SiteText.{IsFlat, site_text}
+use Rattle.rc_sitetext.specs.declared.site_file.SiteFile.{SiteFile}
+use Rattle.rc_sitetext.specs.SiteText.{IsSpellable, site_text}
 
 -- What is printed
 
@@ -43,8 +42,8 @@ drill_text moment end = end.report ++ status_lines end.outcome ++ site_text mome
 -- the text is the one spelling of this site, and not too long
 pub record IsSiteText (text : List ℕ) (file : SiteFile) : Type 0 where
   pub short : length text ≤ GREATEST_TEXT
-  pub source : IsFlat file.source
-  pub target : IsFlat file.target
+  pub source : IsSpellable file.source
+  pub target : IsSpellable file.target
   pub moment : file.moment ≤ GREATEST_MOMENT
   pub spelled : text ≡ site_text file.moment file.source file.target
 
@@ -59,26 +58,26 @@ told_of file = record { source = file.source; target = file.target; notes = [] }
 -- Runs
 
 -- refused for its words or its site, with nothing reported and nothing changed
-pub record IsRefused (words : List (List ℕ)) (start : Told) (end : End) : Type 0 where
-  pub refused : start_refusal (asked words) start ≡ Some end.outcome
+pub record IsRefused (words : List (List ℕ)) (moment : ℕ) (start : Told) (end : End) : Type 0 where
+  pub refused : start_refusal (asked words) start moment ≡ Some end.outcome
   pub report : end.report ≡ []
   pub now : end.now ≡ start
 
 -- done as the rules want it: the report and the bits are those of the decided keys, and the trees are the goals
 pub record IsCarriedOut (words : List (List ℕ)) (moment : ℕ) (start : Told) (end : End) : Type 0 where
-  pub request : Request
-  pub asks : asked words ≡ Ok request
-  pub accepted : site_refusal request.job start ≡ None
-  pub outcome : end.outcome ≡ Done (bits_of (totals_of (items_at request.job start moment))) moment
-  pub report : end.report ≡ report_of (items_at request.job start moment)
-  pub now : IsMirrored (start_in request.job start) moment end.now
+  pub job : Job
+  pub asks : asked words ≡ Ok job
+  pub accepted : site_refusal job start moment ≡ None
+  pub outcome : end.outcome ≡ Done (bits_of (totals_of (items_at job start moment))) moment
+  pub report : end.report ≡ report_of (items_at job start moment)
+  pub now : IsMirrored (start_in job start) moment end.now
 
 -- how a run of these words ends by the rules
 abbrev pub IsRun : List (List ℕ) → ℕ → Told → End → Type 0
-IsRun words moment start end = IsRefused words start end ⊎ IsCarriedOut words moment start end
+IsRun words moment start end = IsRefused words moment start end ⊎ IsCarriedOut words moment start end
 
--- what a run of a job leaves that memory stopped: each key of the target as it was, as it should be, or with its copy on
--- its way; all else as it was; and nothing reported before both trees are the goals
+-- what a run of a job leaves that memory stopped: each key of the target as it was, or as its item has begun to change
+-- it; all else as it was; and nothing reported before both trees are the goals
 pub record IsCutIn (job : Job) (moment : ℕ) (start : Told) (end : End) : Type 0 where
   pub leaves : RunLeaves job moment start end.now NoMemory
   pub report : AppendsFront [] (report_of (items_at job start moment)) end.report
@@ -88,7 +87,7 @@ pub record IsCutIn (job : Job) (moment : ℕ) (start : Told) (end : End) : Type 
 pub record IsCutShort (words : List (List ℕ)) (moment : ℕ) (start : Told) (end : End) : Type 0 where
   pub outcome : end.outcome ≡ NoMemory
   pub refused : IfErr (asked words) (λ refusal. (end.report ≡ []) × (end.now ≡ start))
-  pub accepted : IfOk (asked words) (λ request. IsCutIn request.job moment start end)
+  pub accepted : IfOk (asked words) (λ job. IsCutIn job moment start end)
 
 -- what is printed and answered of a run that ended so
 pub record Shows (moment : ℕ) (ended : End → Type 0) (printed : List ℕ) (status : ℕ) : Type 0 where

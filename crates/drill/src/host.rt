@@ -3,7 +3,7 @@
 ghost use Rattle.std.specs.Prelude.{◌≡◌, ◌≢◌, ◌<◌, ◌≤◌, IfOk, IfErr};
 ghost use Rattle.std.specs.IoError.{error_kind};
 ghost use Rattle.rc_volume.specs.Faults.{RoseBy};
-ghost use Rattle.rc_run.specs.Words.{texts};
+ghost use Rattle.rc_jobfiles.specs.Ask.{texts};
 ghost use Rattle.drill.specs.Streams.{DrillsStreams};
 
 use crate::adapters::{StdInput, StdOutput};

@@ -3,14 +3,8 @@
 #![tactic(auto)]
 
 mod adapters;
-mod err;
-mod fields;
 mod host;
-mod reader;
 mod run;
-mod site_file;
-mod values;
-mod writer;
 
 use adapters::{StdInput, StdOutput};
 use host::{drill_streams, exit_status};

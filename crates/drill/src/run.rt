@@ -5,16 +5,13 @@ ghost use Rattle.rc_tree.specs.declared.moment.TheConstants.{GREATEST_MOMENT};
 ghost use Rattle.rc_volume.specs.Faults.{RisesIf, RoseBy};
 ghost use Rattle.rc_volume.specs.Streams.{AppendsFront, input_failed, sink_failed};
 ghost use Rattle.rc_run.specs.Outcome.{line_of, status_of};
-ghost use Rattle.rc_run.specs.Words.{texts};
+ghost use Rattle.rc_jobfiles.specs.Ask.{texts};
 ghost use Rattle.drill.specs.Drilling.{Drills, IsNoSite, IsSiteText, OfSome, WritesOut, WritesOne, drill_text, told_of, status_lines, whole_line};
 ghost use Rattle.drill.specs.Finishing.{Ends, end_of, refusal_line, stop_failed};
 
-use crate::err::SiteTextErr;
-use crate::reader::read_site;
-use crate::site_file::SiteFile;
-use crate::writer::write_site;
 use rc_mem::{FixedClock, MemJobs, MemSink, MemSite};
 use rc_run::{Ended, Outcome, mirror_alone, outcome_text, status};
+use rc_sitetext::{SiteFile, SiteTextErr, read_site, write_site};
 use rc_tree::NoMemory;
 use rc_volume::{Input, InputErr, Side, Sink, SinkErr};
 use std::alloc::{AllocError, Global};

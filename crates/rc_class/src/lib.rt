@@ -22,5 +22,5 @@ pub use facts::{Facts, Grain, same_time};
 pub use item::{Item, Items};
 pub use laws::{left_keys_stay, one_plan, ranges_fill_a_file};
 pub use plan::{Plan, unit_count};
-pub use props::{copied_props, directory_props, fresh_props};
+pub use props::{copied_props, directory_props, fixed_props, fresh_props};
 pub use rules::{GivenUp, Rules};

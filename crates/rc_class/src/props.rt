@@ -1,7 +1,7 @@
 //! The properties of what is made, copied and touched.
 
 ghost use Rattle.std.specs.Prelude.{◌≡◌, IfOk};
-ghost use Rattle.rc_class.specs.Goal.{adjusted, copied_props, directory_props, fresh_attr, fresh_props, letter, over, picked};
+ghost use Rattle.rc_class.specs.Goal.{adjusted, copied_props, directory_props, fixed_props, fresh_attr, fresh_props, letter, over, picked};
 
 use crate::Rules;
 use rc_tree::{Attr, Kind, Moment, NoMemory, Props, Security};
@@ -47,6 +47,42 @@ pub fn directory_props(
         access: old.access.copy(alloc)?,
         owner: old.owner.copy(alloc)?,
         audit: old.audit.copy(alloc)?,
+    })
+}
+
+/// The properties of a file that stays, where the source's has these and the target's those, with the times or the
+/// security that are to be mended.
+pub fn fixed_props(
+    alloc: Global,
+    rules: Rules,
+    source: &Props,
+    old: &Props,
+) -> Result<Props, NoMemory>
+    ensures { IfOk result (λ props. props ≡ fixed_props rules source.now old.now) }
+{
+    let mends_access = rules.access || !(rules.owner || rules.audit);
+    Ok(Props {
+        attr: old.attr,
+        created: pick(rules.timfix, source.created, old.created),
+        written: pick(rules.timfix, source.written, old.written),
+        access: pick_security(
+            alloc,
+            rules.secfix && mends_access,
+            &source.access,
+            &old.access,
+        )?,
+        owner: pick_security(
+            alloc,
+            rules.secfix && rules.owner,
+            &source.owner,
+            &old.owner,
+        )?,
+        audit: pick_security(
+            alloc,
+            rules.secfix && rules.audit,
+            &source.audit,
+            &old.audit,
+        )?,
     })
 }
 

@@ -1,3 +1,7 @@
-pub mod ListLemmas
-pub mod MergeLemmas
-pub mod PlanLemmas
+pub mod Floors
+pub mod Leads
+pub mod Makes
+pub mod Pairings
+pub mod Plans
+pub mod Scans
+pub mod Walks

@@ -1,4 +1,8 @@
+pub mod Deciding
 pub mod Faults
-pub mod Merge
+pub mod Found
+pub mod Limits
+pub mod Made
+pub mod Pair
 pub mod Plan
-pub mod Roots
+pub mod Walk

@@ -1,37 +1,49 @@
--- What the plan of a job says.
-use Rattle.std.specs.Prelude.{◌≡◌, ℕ, ◌≤◌, ◌^◌, true, false, List, All}
-use Rattle.rc_tree.specs.Path.{key_of}
+-- What the plan of a job on two trees has, and why there is none.
+use Rattle.std.specs.Prelude.{◌≡◌, ℕ, ◌<◌, true, All, List, [], length, Option, None, Some, Result, Ok, Err}
+use Rattle.rc_tree.specs.Tree.{IsTree}
 use Rattle.rc_class.specs.declared.item.Item.{Item}
 use Rattle.rc_class.specs.declared.plan.Plan.{Plan}
 use Rattle.rc_class.specs.Items.{are_rising}
 use Rattle.rc_class.specs.Start.{Start}
-use Rattle.rc_class.specs.Units.{is_copy}
-use Rattle.rc_class.specs.Goal.{is_left}
-use Rattle.rc_class.specs.declared.decision.After.TheVariants.{Nothing}
-use Rattle.rc_filter.specs.Decided.{start_of}
+use Rattle.rc_filter.specs.Decided.{planned_items, start_of}
 use Rattle.rc_job.specs.declared.job.Job.{Job}
+use Rattle.rc_volume.specs.Faults.{Cause, free, on, part_for}
 use Rattle.rc_volume.specs.Site.{Told}
-use Rattle.rc_plan.specs.Roots.{is_in_root}
+use Rattle.rc_plan.specs.declared.plan.PlanErr.{PlanErr}
+use Rattle.rc_plan.specs.declared.plan.PlanErr.TheVariants.{ListFault, TooMany, TooBig, NoMemory}
+use Rattle.rc_plan.specs.Limits.{limit_of}
 
 -- where a run of a job begins on what a site tells
 abbrev pub start_in : Job → Told → Start
 start_in job told = start_of job told.source told.target
 
--- each is at a key of the root
-abbrev pub AreInRoot : List Item → Type 0
-AreInRoot items = All (λ item. is_in_root (key_of item.path) ≡ true) items
+-- both trees that are told are trees
+pub record AreTrees (told : Told) : Type 0 where
+  pub source : IsTree told.source
+  pub target : IsTree told.target
 
--- what is copied has at most 2^40 bytes
-abbrev pub AreSmallCopies : List Item → Type 0
-AreSmallCopies items = All (λ item. is_copy item.act ≡ true → item.facts.size ≤ 2 ^ 40) items
+-- what an answer says of a site's counts of faults
+abbrev pub plan_cause : {T : Type 0} → Result T PlanErr → Cause
+plan_cause (Ok value) = free
+plan_cause (Err (ListFault side)) = on (part_for side) 1
+plan_cause (Err (TooMany side count)) = free
+plan_cause (Err (TooBig path size)) = free
+plan_cause (Err NoMemory) = free
 
--- so far files are copied or both sides are left as they are, and nothing becomes of the source's entries
-pub record IsCopyOrLeft (item : Item) : Type 0 where
-  pub left : is_copy item.act ≡ false → is_left item.act ≡ true
-  pub stays : item.after ≡ Nothing
+-- the limit that all that a job decides of two trees passes
+abbrev pub limit_in : Job → Told → ℕ → Option PlanErr
+limit_in job told moment = limit_of job.copy.data_bytes (planned_items job told.source told.target moment)
 
-abbrev pub AreCopiesOrLeft : List Item → Type 0
-AreCopiesOrLeft items = All IsCopyOrLeft items
+-- a plan is refused by a limit exactly where that is passed
+abbrev pub MayRefuse : Option PlanErr → PlanErr → Type 0
+MayRefuse passed (ListFault side) = Unit {0}
+MayRefuse passed (TooMany side count) = passed ≡ Some (TooMany side count)
+MayRefuse passed (TooBig path size) = passed ≡ Some (TooBig path size)
+MayRefuse passed NoMemory = Unit {0}
+
+-- the plan that has these items
+abbrev pub plan_with : Job → ℕ → List Item → Plan
+plan_with job moment items = record { job = []; moment = moment; stride = 0; with_bytes = job.copy.data_bytes; items = items }
 
 -- what every plan of a job at a moment has, whether trees were told or not
 pub record IsMadeFor (job : Job) (begun : ℕ) (plan : Plan) : Type 0 where
@@ -39,6 +51,5 @@ pub record IsMadeFor (job : Job) (begun : ℕ) (plan : Plan) : Type 0 where
   pub stride : plan.stride ≡ 0
   pub with_bytes : plan.with_bytes ≡ job.copy.data_bytes
   pub rising : are_rising plan.items ≡ true
-  pub roots : AreInRoot plan.items
-  pub left : AreCopiesOrLeft plan.items
-  pub small : plan.with_bytes ≡ true → AreSmallCopies plan.items
+  pub below : All (λ item. 0 < length item.path) plan.items
+  pub limits : limit_of plan.with_bytes plan.items ≡ None

@@ -1,12 +1,15 @@
-//! The plan of a run: both roots of a site are listed in order, and each key at which one of them has a file is decided.
+//! The plan of a run: both sides of a site are read whole, each key of either is decided, and the limits are looked at.
 //!
-//! [`make_plan`] changes no tree. It answers the items of all decided keys, in the order of their keys, or that a root
-//! could not be listed, or that it holds what is not mirrored yet.
+//! [`make_plan`] changes no tree. It answers the items of all decided keys, in the order of their keys, or that a directory
+//! could not be listed, or which limit is passed.
 #![tactic(auto)]
 
-mod found;
-mod listing;
-mod merge;
+mod decided;
+mod entries;
+mod limits;
+mod made;
+mod pairs;
 mod plan;
+mod sides;
 
 pub use plan::{PlanErr, make_plan};

@@ -1,33 +1,36 @@
-//! The plan of a job on the two trees of a site.
+//! The plan of a job on the two whole trees of a site, within the limits.
+//!
+//! Both sides are read whole, paired key by key and decided: scope going forwards, what some file below asks for going
+//! backwards. No tree is changed.
 
-ghost use Rattle.std.specs.Prelude.{◌≡◌, true, false, map, IfOk, OnOk, IsErrOf};
+ghost use Rattle.std.specs.Prelude.{◌≡◌, true, None, IfErr, IfOk, OnOk};
 ghost use Rattle.rc_class.specs.Start.{IsPlanOf};
 ghost use Rattle.rc_volume.specs.Frames.{Looks};
-ghost use Rattle.rc_volume.specs.Site.{Told};
-ghost use Rattle.rc_plan.specs.Faults.{list_cause, plan_cause};
-ghost use Rattle.rc_plan.specs.Merge.{AreDecided, found_of};
-ghost use Rattle.rc_plan.specs.Plan.{IsMadeFor, start_in};
-ghost use Rattle.rc_plan.specs.Roots.{AreRootsOf, AreTrees, are_built, are_in_order, are_listed_built};
+ghost use Rattle.rc_plan.specs.Plan.{limit_in, plan_cause, plan_with, start_in, AreTrees, IsMadeFor, MayRefuse};
 
-use crate::found::{are_built, find_all};
-use crate::listing::list_root;
-use crate::merge::merge;
+use crate::entries::ListErr;
+use crate::limits::check_limits;
+use crate::sides::decide_site;
 use rc_class::{Item, Items, Plan};
+use rc_filter::plans_have_the_planned_items;
 use rc_job::Job;
-use rc_tree::{Entry, Moment, NoMemory, Text};
+use rc_tree::{Moment, Path, Text};
 use rc_volume::{Clock, Side, Site};
 use std::alloc::Global;
 use thiserror::Error;
 
 /// Why there is no plan. The causes are looked for in this order, and want of memory may come in place of any.
-#[derive(Clone, Copy, Debug, PartialEq, Eq, Error)]
+#[derive(Debug, Drop, Error)]
 pub enum PlanErr {
-    /// A root could not be listed. That side's count of faults rose.
-    #[error("a root could not be listed")]
+    /// A directory of this side could not be listed. That side's count of faults rose.
+    #[error("a directory could not be listed")]
     ListFault { side: Side },
-    /// A root has a directory, or bytes are copied and the source's has a file of more than 2^40: not mirrored yet.
-    #[error("a root has what is not mirrored yet")]
-    NotBuilt,
+    /// This side has more than 500000 decided entries: at least `count`.
+    #[error("a side has too many entries")]
+    TooMany { side: Side, count: u64 },
+    /// This file would be copied, and has more than 2^40 bytes: `size`. Of several, the one with the least key.
+    #[error("a file is too big")]
+    TooBig { path: Path, size: u64 },
     #[error("out of memory")]
     NoMemory,
 }
@@ -43,94 +46,34 @@ pub fn make_plan<S: Site, C: Clock>(
     ensures plan { S.tells ≡ true →
         IfOk result (IsPlanOf (start_in job.now (S.view site.old).told)) }
     ensures trees { S.tells ≡ true → OnOk result (AreTrees (S.view site.old).told) }
-    ensures built { S.tells ≡ true →
-        OnOk result (are_built job.now (S.view site.old).told ≡ true) }
-    ensures not_built { S.tells ≡ true → IsErrOf result PlanErr.NotBuilt →
-        are_built job.now (S.view site.old).told ≡ false }
+    ensures within { S.tells ≡ true →
+        OnOk result (limit_in job.now (S.view site.old).told moment ≡ None) }
+    ensures refused { S.tells ≡ true →
+        IfErr result (MayRefuse (limit_in job.now (S.view site.old).told moment)) }
     // On every site, told or not.
     ensures made { IfOk result (IsMadeFor job.now moment) }
     ensures frame { Looks S.tells (plan_cause result) (S.view site.old) (S.view site.new) }
 {
-    match list_roots(alloc, site) {
-        Ok((source, target)) => {
-            if !are_built(job, &source, &target) {
-                return Err(PlanErr::NotBuilt);
-            }
-            match plan_of(alloc, job, moment, &source, &target) {
-                Ok(plan) => Ok(plan),
-                Err(_) => Err(PlanErr::NoMemory),
-            }
-        }
-        Err(e) => Err(e),
-    }
-}
-
-// The entries of both roots, each in the order of their folded names.
-fn list_roots<S: Site>(alloc: Global, site: &mut S) -> Result<(Vec<Entry>, Vec<Entry>), PlanErr>
-    ensures listed { S.tells ≡ true → IfOk result
-        (λ roots. AreRootsOf (S.view site.old).told roots.0.items roots.1.items) }
-    ensures trees { S.tells ≡ true → OnOk result (AreTrees (S.view site.old).told) }
-    ensures source { IfOk result (λ roots. are_in_order roots.0.items ≡ true) }
-    ensures target { IfOk result (λ roots. are_in_order roots.1.items ≡ true) }
-    ensures frame { Looks S.tells (list_cause result) (S.view site.old) (S.view site.new) }
-{
-    match list_root(alloc, site, Side::Source) {
-        Ok(source) => match list_root(alloc, site, Side::Target) {
-            Ok(target) => Ok((source, target)),
+    plans_have_the_planned_items();
+    match decide_site(alloc, job, moment, site) {
+        Ok(items) => match check_limits(alloc, job.copy.data_bytes, &items) {
+            Ok(()) => Ok(plan_of(alloc, job, moment, items)),
             Err(e) => Err(e),
         },
-        Err(e) => Err(e),
+        Err(ListErr::Failed { side }) => Err(PlanErr::ListFault { side }),
+        Err(ListErr::NoMemory) => Err(PlanErr::NoMemory),
     }
 }
 
-// The plan of a job on two trees whose roots have these entries.
-fn plan_of(
-    alloc: Global,
-    job: &Job,
-    moment: Moment,
-    source: &[Entry],
-    target: &[Entry],
-) -> Result<Plan, NoMemory>
-    requires ours { are_in_order source.now ≡ true }
-    requires theirs { are_in_order target.now ≡ true }
-    requires built { are_listed_built job.now source.now target.now ≡ true }
-
-    ensures plan { (told : Told) → AreRootsOf told source.now target.now →
-        IfOk result (IsPlanOf (start_in job.now told)) }
-    ensures made { IfOk result (IsMadeFor job.now moment) }
+// The plan that has these items.
+fn plan_of(alloc: Global, job: &Job, moment: Moment, items: Vec<Item>) -> Plan
+    ensures { result ≡ plan_with job.now moment items.items }
 {
-    match decide_all(alloc, job, moment, source, target) {
-        Ok(items) => Ok(Plan {
-            job: Text::empty(alloc),
-            moment,
-            stride: 0,
-            with_bytes: job.copy.data_bytes,
-            items: Items::new(items),
-        }),
-        Err(e) => Err(e),
-    }
-}
-
-// The items of all keys at which one of the roots has a file.
-fn decide_all(
-    alloc: Global,
-    job: &Job,
-    moment: Moment,
-    source: &[Entry],
-    target: &[Entry],
-) -> Result<Vec<Item>, NoMemory>
-    requires ours { are_in_order source.now ≡ true }
-    requires theirs { are_in_order target.now ≡ true }
-    requires built { are_listed_built job.now source.now target.now ≡ true }
-
-    ensures { IfOk result (λ items. AreDecided job.now moment
-        (map found_of source.now) (map found_of target.now) items.items) }
-{
-    match find_all(alloc, source) {
-        Ok(source) => match find_all(alloc, target) {
-            Ok(target) => merge(alloc, job, moment, &source, &target),
-            Err(e) => Err(e),
-        },
-        Err(e) => Err(e),
+    Plan {
+        job: Text::empty(alloc),
+        moment,
+        stride: 0,
+        with_bytes: job.copy.data_bytes,
+        items: Items::new(items),
     }
 }

@@ -9,5 +9,6 @@ mod lines;
 mod report;
 mod totals;
 
+pub use lines::push_path;
 pub use report::report_to;
 pub use totals::{Column, Measure, Row, Totals, bits, count_totals};

@@ -129,8 +129,8 @@ fn push_count(alloc: Global, text: &mut String, count: u128) -> Result<(), Alloc
     push_right(text, 10, &count.to_string(alloc)?)
 }
 
-// Adds the names of a path with `\` between them.
-fn push_path(line: &mut String, path: &Path) -> Result<(), AllocError>
+/// Adds the names of a path with `\` between them; the line keeps a front of that where memory is wanting.
+pub fn push_path(line: &mut String, path: &Path) -> Result<(), AllocError>
     ensures { OnOk result (string_bytes line.new ≡ string_bytes line.old ++ path_text path.now) }
 {
     match path.names() {

@@ -1,9 +1,3 @@
-pub mod CopyLemmas
-pub mod CopyableLemmas
-pub mod ItemLemmas
-pub mod NodeLemmas
 pub mod OutcomeLemmas
+pub mod PassLemmas
 pub mod RunLemmas
-pub mod WantLemmas
-pub mod WordLemmas
-pub mod SyncLemmas

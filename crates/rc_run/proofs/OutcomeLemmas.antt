@@ -8,12 +8,13 @@ use Rattle.std.proofs.lemmas.Fmt.{IsAscii-decimal}
 use Rattle.std.proofs.lemmas.List.{append-nil}
 use Rattle.std.proofs.lemmas.Str.{chars-append, chars-IsAscii, encodes-chars, IsAscii-append, IsUtf8-from_ascii}
 use Rattle.std.proofs.lemmas.Str.Ascii.{IsAscii-nil, IsAscii-cons}
+use Rattle.rc_report.specs.Report.{path_text}
 use Rattle.rc_volume.specs.declared.site.Side.{Side}
 use Rattle.rc_volume.specs.declared.site.Side.TheVariants.{Source, Target}
 use Rattle.rc_run.specs.declared.outcome.Outcome.{Outcome}
-use Rattle.rc_run.specs.declared.outcome.Outcome.TheVariants.{Usage, NotYet, RootFault, ListFault, SiteFault}
+use Rattle.rc_run.specs.declared.outcome.Outcome.TheVariants.{Usage, NotYet, RootFault, ListFault, TooMany, TooBig, SiteFault}
 use Rattle.rc_run.specs.declared.outcome.Unbuilt.{Unbuilt}
-use Rattle.rc_run.specs.declared.outcome.Unbuilt.TheVariants.{Words, Trees, Record}
+use Rattle.rc_run.specs.declared.outcome.Unbuilt.TheVariants.{Words, Record}
 use Rattle.rc_run.specs.Outcome.{line_of, in_file, side_name, unbuilt_number}
 
 -- the characters of a made text, from its bytes
@@ -31,7 +32,6 @@ IsAscii-from_test (b ∷ bs) h =
 -- the lines that have one number or one side
 unbuilt_fits : (what : Unbuilt) → unbuilt_number what < 2 ^ 64
 unbuilt_fits Words = omega arith
-unbuilt_fits Trees = omega arith
 unbuilt_fits Record = omega arith
 
 pub not_yet_chars : (what : Unbuilt) → chars (codes "ERROR: not built yet: " ++ decimal (unbuilt_number what)) ≡ line_of (NotYet what)
@@ -54,6 +54,33 @@ pub site_chars : (side : Side) → chars (codes "ERROR: " ++ codes "volume" ++ c
 unfolding chars
 site_chars Source = refl
 site_chars Target = refl
+
+-- the lines of the limits
+side_ascii : (side : Side) → IsAscii (side_name side)
+side_ascii Source = IsAscii-from_test (codes "source") refl
+side_ascii Target = IsAscii-from_test (codes "target") refl
+
+pub too_many_chars : (side : Side) (count : ℕ) → count < 2 ^ 64 → chars (codes "ERROR: too many entries: " ++ side_name side ++ codes " " ++ decimal count) ≡ line_of (TooMany side count)
+too_many_chars side count l =
+    chars-IsAscii _
+    (IsAscii-append (codes "ERROR: too many entries: " ++ side_name side ++ codes " ") (decimal count)
+    (IsAscii-append (codes "ERROR: too many entries: " ++ side_name side) (codes " ")
+    (IsAscii-append (codes "ERROR: too many entries: ") (side_name side) (IsAscii-from_test (codes "ERROR: too many entries: ") refl) (side_ascii side))
+    (IsAscii-from_test (codes " ") refl))
+    (IsAscii-decimal count l))
+
+pub too_big_chars : (path : List (List ℕ)) (bs : List ℕ) (size : ℕ) → bs ≡ path_text path → IsUtf8 bs → size < 2 ^ 64 → chars (codes "ERROR: file too big: " ++ (bs ++ (codes " " ++ decimal size))) ≡ line_of (TooBig path size)
+too_big_chars path bs size is text l =
+    let front : IsAscii (codes "ERROR: file too big: ") = IsAscii-from_test (codes "ERROR: file too big: ") refl in
+    let end : IsAscii (codes " " ++ decimal size) = IsAscii-append (codes " ") (decimal size) (IsAscii-from_test (codes " ") refl) (IsAscii-decimal size l) in
+    chars-append (codes "ERROR: file too big: ") (bs ++ (codes " " ++ decimal size)) (IsUtf8-from_ascii _ front)
+    ∙ ap (λ (cs : List ℕ). cs ++ chars (bs ++ (codes " " ++ decimal size))) (chars-IsAscii _ front)
+    ∙ ap (λ (cs : List ℕ). codes "ERROR: file too big: " ++ cs)
+    (chars-append bs (codes " " ++ decimal size) text
+    ∙ ap (λ (cs : List ℕ). chars bs ++ cs) (chars-IsAscii _ end)
+    ∙ ap (λ (b : List ℕ). chars b ++ (codes " " ++ decimal size)) is)
+    ∙ sym (append_assoc (codes "ERROR: file too big: ") (chars (path_text path)) (codes " " ++ decimal size))
+    ∙ sym (append_assoc (codes "ERROR: file too big: " ++ chars (path_text path)) (codes " ") (decimal size))
 
 -- what the line of a refusal begins with
 abbrev pub word_front : ℕ → ℕ → List ℕ

@@ -1,38 +1,69 @@
 -- What the steps of a run say of it, by how it ends.
-use Rattle.std.proofs.Common.{◌≡◌, ℕ, zero, suc, ◌<◌, ◌≤◌, Bool, true, false, cond, List, [], ◌∷◌, ◌++◌, Option, Some, None, length, get_or, map, inl, refl, sym, ap, subst, ◌∙◌, arith}
+use Rattle.std.proofs.Common.{◌≡◌, ℕ, zero, suc, ◌<◌, ◌≤◌, Bool, true, false, not, ◌&&◌, ◌||◌, List, [], ◌∷◌, ◌++◌, Option, Some, None, length, get_or, inl, refl, sym, ap, subst, ◌∙◌, arith}
 use Rattle.std.proofs.Math.Seq.{take-length}
-use Rattle.std.proofs.lemmas.Bool.{true≢false}
+use Rattle.std.proofs.lemmas.Bool.{true≢false, ltb-false}
 use Rattle.std.proofs.lemmas.List.{append-nil}
-use Rattle.std.specs.Prelude.{T, All, if◌then◌else◌}
+use Rattle.std.specs.Prelude.{◌^◌, All, Err, option_map, nat_lt, if◌then◌else◌}
 use Rattle.std.specs.FinMap.{get}
-use Rattle.std.specs.FinMap.Entries.{is_sorted}
-use Rattle.rc_tree.specs.Path.{key_of, key_cmp}
+use Rattle.std.specs.List.{count_by, list_any}
+use Rattle.rc_tree.specs.declared.attr.Kind.{Kind}
+use Rattle.rc_tree.specs.declared.attr.Kind.TheVariants.{File, Dir}
+use Rattle.rc_tree.specs.declared.props.Props.{Props}
+use Rattle.rc_tree.specs.Spelled.{spelled}
 use Rattle.rc_tree.specs.Tree.{IsTree, Node, Tree}
-use Rattle.rc_tree.proofs.Keys.{key_itself, below_apart}
+use Rattle.rc_tree.proofs.Keys.{same_tree}
+use Rattle.rc_class.specs.declared.decision.Act.{Act}
+use Rattle.rc_class.specs.declared.decision.Act.TheVariants.{Copy, Make, Touch, Fix, Purge, Extra, Mismatch, Keep}
+use Rattle.rc_class.specs.declared.decision.After.{After}
 use Rattle.rc_class.specs.declared.decision.After.TheVariants.{Nothing}
+use Rattle.rc_class.specs.declared.class.Class.{Class}
+use Rattle.rc_class.specs.declared.decision.Reason.{Reason}
+use Rattle.rc_class.specs.declared.decision.Reason.TheVariants as reason
+use Rattle.rc_class.specs.declared.facts.Facts.{Facts}
 use Rattle.rc_class.specs.declared.item.Item.{Item}
+use Rattle.rc_class.specs.Class.{class_against, facts_of, is_mismatched}
 use Rattle.rc_class.specs.declared.plan.Plan.{Plan}
 use Rattle.rc_class.specs.Goal.{released, source_goal, target_goal}
-use Rattle.rc_class.specs.Items.{keyed, item_at}
-use Rattle.rc_class.specs.Sides.{IsDecidedIn}
+use Rattle.rc_class.specs.Items.{item_at}
+use Rattle.rc_class.specs.Sides.{IsDecidedIn, is_put}
 use Rattle.rc_class.specs.Start.{IsPlanOf}
+use Rattle.rc_class.specs.Units.{is_copy}
+use Rattle.rc_copy.specs.declared.err.CopyErr.{CopyErr}
+use Rattle.rc_copy.specs.declared.err.CopyErr.TheVariants as copy_err
+use Rattle.rc_copy.specs.Copying.{AreDecided, AreSmallCopies, CopiesFiles, copies_any, copy_cause}
+use Rattle.rc_copy.proofs.ItemLemmas.{found_item}
+use Rattle.rc_finish.specs.Passes.{HasPassed, given, gives_props, has_any, pass_at, with_given}
 use Rattle.rc_job.specs.declared.job.Job.{Job}
-use Rattle.rc_filter.specs.Acts.{rules_of}
-use Rattle.rc_filter.specs.Decided.{decided_at, start_of}
-use Rattle.rc_plan.specs.Plan.{AreCopiesOrLeft, start_in}
-use Rattle.rc_plan.specs.Roots.{AreTrees, are_built}
+use Rattle.rc_filter.specs.Acts.{class_act, differ, directory_act, extra_act, grain_of, is_all, kept_for, kind_and_props_of, lonely_act, rules_of, standing_act, unless}
+use Rattle.rc_filter.specs.Decided.{act_for, decided_at, item_of, some_copied, start_of}
+use Rattle.rc_filter.specs.Matching.{is_excluded_directory, is_excluded_file, is_named}
+use Rattle.rc_filter.specs.Scope.{is_decided}
+use Rattle.rc_class.specs.declared.rules.Rules.{Rules}
+use Rattle.rc_finish.specs.declared.err.FinishErr.{FinishErr}
+use Rattle.rc_finish.specs.declared.err.FinishErr.TheVariants as finish_err
+use Rattle.rc_finish.specs.Calls.{Gives, IsCallFor, LogsPass, finish_cause}
+use Rattle.rc_volume.specs.declared.site.Part.{Part}
+use Rattle.rc_volume.specs.declared.site.Side.TheVariants as side
+use Rattle.rc_volume.specs.declared.site.Side.TheVariants.{Target}
+use Rattle.rc_volume.specs.Faults.{Cause, Counts, free, on, part_for}
+use Rattle.rc_volume.specs.Frames.{ChangesSide}
+use Rattle.rc_volume.specs.Images.{IsOnlyTree}
+use Rattle.rc_volume.specs.Log.{Event, synced}
+use Rattle.rc_plan.specs.declared.plan.PlanErr.{PlanErr}
+use Rattle.rc_plan.specs.declared.plan.PlanErr.TheVariants as plan_err
+use Rattle.rc_plan.specs.Limits.{first_too_big, has_source, has_target, is_too_big, limit_of, too_big}
+use Rattle.rc_plan.specs.Plan.{AreTrees, MayRefuse, limit_in, start_in}
 use Rattle.rc_report.specs.Report.{report_of}
 use Rattle.rc_volume.specs.Streams.{AppendsFront}
-use Rattle.rc_volume.specs.Site.{Told}
-use Rattle.rc_run.specs.declared.copying.Copying.{Copying}
+use Rattle.rc_volume.specs.Site.{Seen, Told}
 use Rattle.rc_run.specs.declared.outcome.Outcome.{Outcome}
 use Rattle.rc_run.specs.declared.outcome.Outcome.TheVariants.{NotYet}
 use Rattle.rc_run.specs.declared.outcome.Unbuilt.TheVariants as unbuilt
-use Rattle.rc_run.specs.Answers.{Answers, RunLeaves, Sends, copying_of, is_empty, site_refusal}
-use Rattle.rc_run.specs.Copying.{AreBetween, IsDoableIn, after_items}
+use Rattle.rc_run.specs.Answers.{Answers, RunLeaves, Sends, copying_of, is_empty, site_refusal, uncopied, unfinished, unplanned}
 use Rattle.rc_run.specs.Goal.{IsMirrored, items_at}
-use Rattle.rc_run.specs.Outcome.{Ending, EndsAt, at_copies, at_end, at_limits, at_record, at_report, at_words, ending, failed, finished, first_step, last_step, out_of_memory, refused, unreported}
-use Rattle.rc_run.proofs.ItemLemmas.{below_get, found_item, first_so, second_so, is_so}
+use Rattle.rc_run.specs.Outcome.{Ending, EndsAt, at_copies, at_end, at_limits, at_listing, at_record, at_report, at_words, cause_of, ending, failed, finished, first_step, last_step, out_of_memory, refused, unreported}
+use Rattle.rc_run.specs.Under.{AreUnderWay, HaveGoals, IsLasting}
+use Rattle.rc_run.proofs.PassLemmas.{ArePassable}
 
 -- What is written
 
@@ -77,28 +108,33 @@ EndsAt-refused from to holds finished step h same = cc
 EndsAt-refused from to holds out_of_memory step h same = cc
 
 -- what an answer of these steps says of the site
-pub answers_so : (tells : Bool) (job : Job) (told : Told) (from to : ℕ) (holds : Type 0) (o : Outcome) → EndsAt from to holds (ending o) → at_words < from → (holds → tells ≡ true → site_refusal job told ≡ Some o) → (at_record < to → tells ≡ true → told.notes ≡ []) → (at_limits < to → tells ≡ true → are_built job told ≡ true) → Answers tells job told o
-answers_so tells job told from to holds o h behind refusal notes built =
+pub answers_so : (tells : Bool) (job : Job) (told : Told) (moment from to : ℕ) (holds : Type 0) (o : Outcome) → EndsAt from to holds (ending o) → at_words < from → (holds → tells ≡ true → site_refusal job told moment ≡ Some o) → (at_record < to → tells ≡ true → told.notes ≡ []) → (at_limits < to → tells ≡ true → limit_in job told moment ≡ None) → Answers tells job told moment o
+answers_so tells job told moment from to holds o h behind refusal notes within =
     let first = EndsAt-first from to holds (ending o) h in
     let last = EndsAt-last from to holds (ending o) h in
     record {
       behind_words = omega (arith, behind, last);
       refusal = λ step same. refusal (EndsAt-refused from to holds (ending o) step h same);
       no_record = λ l. notes (omega (arith, l, first));
-      built = λ l. built (omega (arith, l, first));
+      within = λ l. within (omega (arith, l, first));
     }
 
--- a site with a record is refused for it, and another for its trees
-pub record_refusal : (job : Job) (told : Told) (o : Outcome) → o ≡ NotYet unbuilt.Record → is_empty told.notes ≡ false → site_refusal job told ≡ Some o
-record_refusal job told o same some =
-    ap (λ (b : Bool). if b then (if are_built job told then None else Some (NotYet unbuilt.Trees)) else Some (NotYet unbuilt.Record)) some
+-- a site with a record is refused for it, and another for a limit
+pub record_refusal : (job : Job) (told : Told) (moment : ℕ) (o : Outcome) → o ≡ NotYet unbuilt.Record → is_empty told.notes ≡ false → site_refusal job told moment ≡ Some o
+record_refusal job told moment o same some =
+    ap (λ (b : Bool). if b then option_map unplanned (limit_in job told moment) else Some (NotYet unbuilt.Record)) some
     ∙ ap (λ (x : Outcome). Some x) (sym same)
 
-pub trees_refusal : (job : Job) (told : Told) (o : Outcome) → o ≡ NotYet unbuilt.Trees → told.notes ≡ [] → are_built job told ≡ false → site_refusal job told ≡ Some o
-trees_refusal job told o same none other =
-    ap (λ (b : Bool). if b then (if are_built job told then None else Some (NotYet unbuilt.Trees)) else Some (NotYet unbuilt.Record)) (ap is_empty none)
-    ∙ ap (λ (b : Bool). if b then None else Some (NotYet unbuilt.Trees)) other
-    ∙ ap (λ (x : Outcome). Some x) (sym same)
+pub limit_refusal : (job : Job) (told : Told) (moment : ℕ) (o : Outcome) → told.notes ≡ [] → option_map unplanned (limit_in job told moment) ≡ Some o → site_refusal job told moment ≡ Some o
+limit_refusal job told moment o none passed =
+    ap (λ (b : Bool). if b then option_map unplanned (limit_in job told moment) else Some (NotYet unbuilt.Record)) (ap is_empty none) ∙ passed
+
+-- a plan is refused by the limit that is passed
+pub plan_ends : (e : PlanErr) (tells : Bool) (passed : Option PlanErr) → (tells ≡ true → MayRefuse passed e) → EndsAt at_listing at_limits (tells ≡ true → option_map unplanned passed ≡ Some (unplanned e)) (ending (unplanned e))
+plan_ends (plan_err.ListFault side) tells passed is = (omega arith, omega arith)
+plan_ends (plan_err.TooMany side count) tells passed is = (omega arith, omega arith, λ told. ap (λ (o : Option PlanErr). option_map unplanned o) (is told))
+plan_ends (plan_err.TooBig path size) tells passed is = (omega arith, omega arith, λ told. ap (λ (o : Option PlanErr). option_map unplanned o) (is told))
+plan_ends plan_err.NoMemory tells passed is = omega arith
 
 -- an answer that comes before the copies leaves all as it was
 pub leaves_all : (job : Job) (moment : ℕ) (start end : Told) (o : Outcome) (from to : ℕ) (holds : Type 0) → EndsAt from to holds (ending o) → to < at_copies → end ≡ start → RunLeaves job moment start end o
@@ -127,61 +163,316 @@ sends_so job at moment start now items o old new are same begun whole front =
 
 -- What a plan's items say
 
--- an item of a plan is found at its key
-found_own : (items : List Item) (k : ℕ) (d : Item) → T (is_sorted key_cmp (map keyed items)) → k < length items → item_at items (key_of (get_or items k d).path) ≡ Some (get_or items k d)
-found_own [] k d sorted l = absurd (omega (arith, l))
-found_own (item ∷ items) zero d sorted l = ap (λ b. cond b (Some item) (item_at items (key_of item.path))) (key_itself (key_of item.path))
-found_own (item ∷ items) (suc k) d sorted l =
-    ap (λ b. cond b (Some item) (item_at items (key_of (get_or items k d).path)))
-    (below_apart (key_of item.path) (key_of (get_or items k d).path) (below_get (key_of item.path) items k d (first_so _ _ sorted) (omega (arith, l))))
-    ∙ found_own items k d (second_so _ _ sorted) (omega (arith, l))
-
 -- the law of decided items
 abbrev Law : Type 0
 Law = (job : Job) (source target : Tree) (moment : ℕ) (key : List (List ℕ)) (item : Item) → IsTree source → IsTree target → decided_at job source target moment key ≡ Some item → IsDecidedIn (start_of job source target) moment key item
 
--- each can be done on the trees of which the plan is
-pub doable : (job : Job) (told : Told) (plan : Plan) → Law → AreTrees told → AreCopiesOrLeft plan.items → IsPlanOf (start_in job told) plan → All (IsDoableIn told.source told.target) plan.items
-doable job told plan law trees left is k d l =
-    let item = get_or plan.items k d in
-    let key = key_of item.path in
-    let decided : decided_at job told.source told.target plan.moment key ≡ Some item = sym (is.items key) ∙ found_own plan.items k d (is_so _ is.rising) l in
-    let says = law job told.source told.target plan.moment key item trees.source trees.target decided in
-    record { beside = says.beside; allowed = says.allowed; left = left k d l }
+-- nothing is purged so far, and nothing becomes of a source
+some_none : {A : Type 0} (x : A) → Some x ≡ None → ⊥
+some_none x e = cc
 
--- nothing becomes of the source's entries
-found_stays : (items : List Item) (key : List (List ℕ)) (source : Option Node) → AreCopiesOrLeft items → source_goal (item_at items key) source ≡ source
-found_stays items key None left = refl
-found_stays items key (Some node) left = by (item_at items key) refl
+same_item : (a b : Item) → Some a ≡ Some b → a ≡ b
+same_item a b e = cc
+
+act_kept : (k : Kind) (file directory : Act) → (file ≡ Purge → ⊥) → (directory ≡ Purge → ⊥) → act_for k file directory ≡ Purge → ⊥
+act_kept File file directory f d = f
+act_kept Dir file directory f d = d
+
+file_kept : (job : Job) (moment : ℕ) (key : List (List ℕ)) (source : Facts) (c : Class) → class_act job moment key source c ≡ Purge → ⊥
+file_kept job moment key source c = by (is_mismatched c) (kept_for job moment key source c)
   where
-    by : (found : Option Item) → item_at items key ≡ found → source_goal found (Some node) ≡ Some node
+    by : (b : Bool) (kept : Option Reason) → (if b then Mismatch else unless kept Copy) ≡ Purge → ⊥
+    by true kept e = cc
+    by false None e = cc
+    by false (Some reason) e = cc
+
+lonely_kept : (job : Job) (key : List (List ℕ)) (below : Bool) → lonely_act job key below ≡ Purge → ⊥
+lonely_kept job key below = by (is_excluded_directory job key) job.xl (is_all job.sub || below)
+  where
+    by : (a b c : Bool) → (if a then Keep reason.Excluded else if b then Keep reason.Class else if c then Make else Keep reason.Empty) ≡ Purge → ⊥
+    by true b c e = cc
+    by false true c e = cc
+    by false false true e = cc
+    by false false false e = cc
+
+standing_kept : (job : Job) (key : List (List ℕ)) (source target : Props) (k : Kind) → standing_act job key source k target ≡ Purge → ⊥
+standing_kept job key source target File = λ e. cc
+standing_kept job key source target Dir = by (is_excluded_directory job key) (differ job.dcopy source target)
+  where
+    by : (a b : Bool) → (if a then Keep reason.Excluded else if b then Touch else Keep reason.Same) ≡ Purge → ⊥
+    by true b e = cc
+    by false true e = cc
+    by false false e = cc
+
+directory_kept : (job : Job) (key : List (List ℕ)) (source : Props) (target : Option Node) (below : Bool) → directory_act job key source (option_map kind_and_props_of target) below ≡ Purge → ⊥
+directory_kept job key source None below = lonely_kept job key below
+directory_kept job key source (Some node) below = standing_kept job key source node.props node.kind
+
+extra_kept : (job : Job) (key : List (List ℕ)) (k : Kind) → extra_act job key k ≡ Purge → ⊥
+extra_kept job key File = by job.xx (is_excluded_file job key) (not (is_named job key || job.all_extras))
+  where
+    by : (a b c : Bool) → (if a then Keep reason.Class else if b then Keep reason.Excluded else if c then Keep reason.NotNamed else Extra) ≡ Purge → ⊥
+    by true b c e = cc
+    by false true c e = cc
+    by false false true e = cc
+    by false false false e = cc
+extra_kept job key Dir = by job.xx (is_excluded_directory job key)
+  where
+    by : (a b : Bool) → (if a then Keep reason.Class else if b then Keep reason.Excluded else Extra) ≡ Purge → ⊥
+    by true b e = cc
+    by false true e = cc
+    by false false e = cc
+
+abbrev IsKept : Item → Type 0
+IsKept item = (item.act ≡ Purge → ⊥) × (item.after ≡ Nothing)
+
+-- nothing is purged so far, and nothing becomes of a source
+item_kept : (job : Job) (moment : ℕ) (key ours theirs : List (List ℕ)) (below : Bool) (source target : Option Node) (item : Item) → item_of job moment key ours theirs below source target ≡ Some item → IsKept item
+item_kept job moment key ours theirs below None None item e = absurd (some_none item (sym e))
+item_kept job moment key ours theirs below None (Some node) item e =
+    subst IsKept (same_item _ item e) (extra_kept job key node.kind, refl)
+item_kept job moment key ours theirs below (Some node) target item e =
+    subst IsKept (same_item _ item e) (
+      act_kept node.kind _ _
+          (file_kept job moment key (facts_of node) (class_against (grain_of job) (facts_of node) (option_map facts_of target)))
+          (directory_kept job key node.props target below),
+      refl,
+    )
+
+decided_kept : (job : Job) (told : Told) (moment : ℕ) (key : List (List ℕ)) (item : Item) → decided_at job told.source told.target moment key ≡ Some item → IsKept item
+decided_kept job told moment key item = by (is_decided job told.source told.target key)
+  where
+    by : (b : Bool) → (if b then item_of job moment key (spelled told.source key) (spelled told.target key) (some_copied job told.source told.target moment key) (get told.source key) (get told.target key) else None) ≡ Some item → IsKept item
+    by true e = item_kept job moment key (spelled told.source key) (spelled told.target key) (some_copied job told.source told.target moment key) (get told.source key) (get told.target key) item e
+    by false e = absurd (some_none item (sym e))
+
+-- the law, of the two trees of a plan
+pub law_of : (job : Job) (told : Told) (moment : ℕ) → Law → AreTrees told → (key : List (List ℕ)) (item : Item) → decided_at job told.source told.target moment key ≡ Some item → IsDecidedIn (start_in job told) moment key item
+law_of job told moment law trees key item e = law job told.source told.target moment key item trees.source trees.target e
+
+-- what the plan of two trees says of each key
+pub passable : (job : Job) (told : Told) (plan : Plan) → Law → AreTrees told → IsPlanOf (start_in job told) plan → ArePassable plan.items told
+passable job told plan law trees is key item e =
+    let decided : decided_at job told.source told.target plan.moment key ≡ Some item = sym (is.items key) ∙ e in
+    let says = law job told.source told.target plan.moment key item trees.source trees.target decided in
+    record { beside = says.beside; allowed = says.allowed; kept = (decided_kept job told plan.moment key item decided).0 }
+
+-- and so of both sides
+pub decided_so : (items : List Item) (told : Told) → ArePassable items told → AreDecided items told
+decided_so items told are key item e = ((are key item e).beside, (are key item e).allowed)
+
+-- Limits
+
+unlimited : (many theirs : Bool) (a b big : Option PlanErr) → (if many then a else if theirs then b else big) ≡ None → (a ≡ None → ⊥) → (b ≡ None → ⊥) → big ≡ None
+unlimited true theirs a b big e na nb = absurd (na e)
+unlimited false true a b big e na nb = absurd (nb e)
+unlimited false false a b big e na nb = e
+
+none_big : (items : List Item) → too_big (first_too_big items) ≡ None → first_too_big items ≡ None
+none_big items = by (first_too_big items)
+  where
+    by : (o : Option Item) → too_big o ≡ None → o ≡ None
     by None e = refl
-    by (Some item) e =
-        let at = found_item items key item e in
-        ap (λ after. released after node) (subst (λ (i : Item). i.after ≡ Nothing) at.2 (left at.0 item at.1).stays)
+    by (Some item) e = cc
+
+not_big : (item : Item) (rest : Option Item) → (if is_too_big item then Some item else rest) ≡ None → (is_too_big item ≡ false) × (rest ≡ None)
+not_big item rest = by (is_too_big item)
+  where
+    by : (b : Bool) → (if b then Some item else rest) ≡ None → (b ≡ false) × (rest ≡ None)
+    by true e = cc
+    by false e = (refl, e)
+
+size_small : (b : Bool) (n : ℕ) → b && nat_lt (2 ^ 40) n ≡ false → b ≡ true → n ≤ 2 ^ 40
+size_small true n e copies = ltb-false (2 ^ 40) n e
+size_small false n e copies = absurd (true≢false (sym copies))
+
+all_small : (items : List Item) → first_too_big items ≡ None → AreSmallCopies items
+all_small [] none k d l = absurd (omega (arith, l))
+all_small (item ∷ items) none zero d l = size_small (is_copy item.act) item.facts.size (not_big item (first_too_big items) none).0
+all_small (item ∷ items) none (suc k) d l = all_small items (not_big item (first_too_big items) none).1 k d (omega (arith, l))
+
+-- no file that is copied with its bytes is too big, within the limits
+pub small_copies : (items : List Item) (with_bytes : Bool) → limit_of with_bytes items ≡ None → with_bytes ≡ true → AreSmallCopies items
+small_copies items false within is = absurd (true≢false (sym is))
+small_copies items true within is = all_small items (none_big items (unlimited (nat_lt 500000 (count_by has_source items)) (nat_lt 500000 (count_by has_target items)) (Some (plan_err.TooMany side.Source 500001)) (Some (plan_err.TooMany side.Target 500001)) (too_big (first_too_big items)) within (some_none (plan_err.TooMany side.Source 500001)) (some_none (plan_err.TooMany side.Target 500001))))
 
 -- What stands in the end
 
--- the copies of a plan's items reach the goals
-pub mirrored : (job : Job) (plan : Plan) (copying : Copying) (start now : Told) → copying ≡ copying_of job plan.moment → IsPlanOf (start_in job start) plan → AreCopiesOrLeft plan.items → ((key : List (List ℕ)) → get now.target key ≡ after_items copying plan.items start.source start.target key) → now.source ≡ start.source → now.notes ≡ start.notes → start.notes ≡ [] → IsMirrored (start_in job start) plan.moment now
-mirrored job plan copying start now same is left copied source notes none = record {
+-- nothing becomes of the source's entries
+source_stays : (found : Option Item) (source : Option Node) → ((item : Item) → found ≡ Some item → item.after ≡ Nothing) → source ≡ source_goal found source
+source_stays None None kept = refl
+source_stays None (Some node) kept = refl
+source_stays (Some item) None kept = refl
+source_stays (Some item) (Some node) kept = sym (ap (λ (after : After). released after node) (kept item refl))
+
+-- where each key has its item's goal, both trees are the goals
+pub mirrored : (job : Job) (plan : Plan) (start now : Told) → IsPlanOf (start_in job start) plan → HaveGoals (copying_of job plan.moment) plan.items start now.target → now.source ≡ start.source → now.notes ≡ start.notes → start.notes ≡ [] → IsMirrored (start_in job start) plan.moment now
+mirrored job plan start now is goals source notes none = record {
   target = λ key.
-      copied key ∙ ap (λ (x : Copying). after_items x plan.items start.source start.target key) same
+      goals key
       ∙ ap (λ o. target_goal (rules_of job) job.copy.data_bytes plan.moment o (get start.source key) (get start.target key)) (is.items key);
   source = λ key.
-      ap (λ (t : Tree). get t key) source ∙ sym (found_stays plan.items key (get start.source key) left)
-      ∙ ap (λ o. source_goal o (get start.source key)) (is.items key);
+      ap (λ (t : Tree). get t key) source
+      ∙ source_stays (decided_at job start.source start.target plan.moment key) (get start.source key)
+      (λ item e. (decided_kept job start plan.moment key item e).1);
   notes = notes ∙ none;
 }
 
--- and so leave what a run that copied all leaves
-pub leaves_done : (job : Job) (plan : Plan) (copying : Copying) (items : List Item) (start now : Told) (o : Outcome) → copying ≡ copying_of job plan.moment → items ≡ plan.items → plan.items ≡ items_at job start plan.moment → IsMirrored (start_in job start) plan.moment now → AreBetween copying items start now.target → now.source ≡ start.source → now.notes ≡ start.notes → EndsAt at_report at_end ⊥ (ending o) → RunLeaves job plan.moment start now o
-leaves_done job plan copying items start now o same are planned done between source notes ends = record {
+-- and so leave what a run that did all leaves
+pub leaves_done : (job : Job) (plan : Plan) (start now : Told) (o : Outcome) → plan.items ≡ items_at job start plan.moment → IsMirrored (start_in job start) plan.moment now → AreUnderWay (copying_of job plan.moment) plan.items start now.target → now.source ≡ start.source → now.notes ≡ start.notes → EndsAt at_report at_end ⊥ (ending o) → RunLeaves job plan.moment start now o
+leaves_done job plan start now o planned done between source notes ends = record {
   mirrored = λ _. done;
   unchanged = λ early. absurd (let last = EndsAt-last at_report at_end ⊥ (ending o) ends in omega (arith, early, last));
-  between =
-      subst (λ (c : Copying). AreBetween c (items_at job start plan.moment) start now.target) same
-      (subst (λ (i : List Item). AreBetween copying i start now.target) (are ∙ planned) between);
+  between = subst (λ (i : List Item). AreUnderWay (copying_of job plan.moment) i start now.target) planned between;
   source = source;
   notes = notes;
 }
+
+-- and what one leaves that failed on its way
+pub leaves_failed : (job : Job) (plan : Plan) (start now : Told) (o : Outcome) → plan.items ≡ items_at job start plan.moment → AreUnderWay (copying_of job plan.moment) plan.items start now.target → now.source ≡ start.source → now.notes ≡ start.notes → EndsAt at_copies at_copies ⊥ (ending o) → RunLeaves job plan.moment start now o
+leaves_failed job plan start now o planned between source notes ends = record {
+  mirrored = λ late. absurd (let first = EndsAt-first at_copies at_copies ⊥ (ending o) ends in omega (arith, late, first));
+  unchanged = λ early. absurd (let last = EndsAt-last at_copies at_copies ⊥ (ending o) ends in omega (arith, early, last));
+  between = subst (λ (i : List Item). AreUnderWay (copying_of job plan.moment) i start now.target) planned between;
+  source = source;
+  notes = notes;
+}
+
+-- the items of a plan are those that were decided at the start
+pub lasting_so : (job : Job) (items : List Item) (mid start : Told) (moment last : ℕ) (seen : Seen) → items ≡ items_at job mid moment → mid ≡ start → moment ≡ last → IsLasting items seen → IsLasting (items_at job start last) seen
+lasting_so job items mid start moment last seen decided told read lasting =
+    subst (λ (m : ℕ). IsLasting (items_at job start m) seen) read
+    (subst (λ (t : Told). IsLasting (items_at job t moment) seen) told (subst (λ (some : List Item). IsLasting some seen) decided lasting))
+
+-- What a list has none of
+
+or_none : (a b : Bool) → a || b ≡ false → (a ≡ false) × (b ≡ false)
+or_none true b e = absurd (true≢false e)
+or_none false b e = (refl, e)
+
+none_at : (p : Item → Bool) (items : List Item) (k : ℕ) (d : Item) → list_any p items ≡ false → k < length items → p (get_or items k d) ≡ false
+none_at p [] k d none l = absurd (omega (arith, l))
+none_at p (item ∷ items) zero d none l = (or_none (p item) (list_any p items) none).0
+none_at p (item ∷ items) (suc k) d none l = none_at p items k d (or_none (p item) (list_any p items) none).1 (omega (arith, l))
+
+put_none : (does : Act) → gives_props does ≡ false → is_copy does ≡ false → is_put does ≡ false
+put_none Make g c = absurd (true≢false g)
+put_none Touch g c = absurd (true≢false g)
+put_none Fix g c = absurd (true≢false g)
+put_none Copy g c = absurd (true≢false c)
+put_none Purge g c = refl
+put_none Extra g c = refl
+put_none Mismatch g c = refl
+put_none (Keep reason) g c = refl
+
+none_put : (items : List Item) → has_any gives_props items ≡ false → copies_any items ≡ false → list_any (λ item. is_put item.act) items ≡ false
+none_put [] g c = refl
+none_put (item ∷ items) g c =
+    let gives = or_none (gives_props item.act) (has_any gives_props items) g in
+    let copies = or_none (is_copy item.act) (copies_any items) c in
+    ap (λ (b : Bool). b || list_any (λ item. is_put item.act) items) (put_none item.act gives.0 copies.0) ∙ none_put items gives.1 copies.1
+
+-- Without an item for it, a pass leaves all as it was
+
+no_calls : (rules : Rules) (moment : ℕ) (start : Told) (items : List Item) (events : List Event) → has_any gives_props items ≡ false → All (IsCallFor (Gives (given rules moment) start) items) events → events ≡ []
+no_calls rules moment start items [] none each = refl
+no_calls rules moment start items (event ∷ events) none each =
+    let call = each 0 event (omega arith) in
+    let found = call.has in
+    let gives : gives_props call.item.act ≡ false =
+    ap (λ (i : Item). gives_props i.act) (sym found.2) ∙ none_at (λ i. gives_props i.act) items found.0 call.item none found.1 in
+    absurd (true≢false (sym call.allowed.0 ∙ gives))
+
+idle_log : (rules : Rules) (moment : ℕ) (start : Told) (items : List Item) (tree : Tree) (old new : List Event) → has_any gives_props items ≡ false → LogsPass (has_any gives_props items) (Gives (given rules moment) start) items tree old new → new ≡ old
+idle_log rules moment start items tree old new none pass =
+    pass.is
+    ∙ ap (λ (b : Bool). pass.before ++ (if b then synced Target tree ∷ [] else [])) none
+    ∙ append-nil pass.before
+    ∙ pass.called.is
+    ∙ ap (λ (es : List Event). old ++ es) (no_calls rules moment start items pass.called.events none pass.called.each)
+    ∙ append-nil old
+
+idle_at : (rules : Rules) (moment : ℕ) (items : List Item) (key : List (List ℕ)) (source target : Option Node) → has_any gives_props items ≡ false → (found : Option Item) → item_at items key ≡ found → pass_at (given rules moment) found source target ≡ target
+idle_at rules moment items key source target none None e = refl
+idle_at rules moment items key None target none (Some item) e = refl
+idle_at rules moment items key (Some from) target none (Some item) e =
+    let found = found_item items key item e in
+    ap (λ (b : Bool). if b then option_map (with_given rules moment item.act from.props) target else target)
+    (ap (λ (i : Item). gives_props i.act) (sym found.2) ∙ none_at (λ i. gives_props i.act) items found.0 item none found.1)
+
+idle_tree : (rules : Rules) (moment : ℕ) (items : List Item) (two : Told) (end : Tree) → has_any gives_props items ≡ false → HasPassed (given rules moment) items two end → end ≡ two.target
+idle_tree rules moment items two end none gives =
+    same_tree end two.target (λ key. gives key ∙ idle_at rules moment items key (get two.source key) (get two.target key) none (item_at items key) refl)
+
+-- behind the last pass a stop leaves what reads
+pub lasting : (rules : Rules) (moment : ℕ) (items copied : List Item) (two end : Seen) → ((tree : Tree) (old new : List Event) → LogsPass true (Gives (given rules moment) two.told) items tree old new → IsOnlyTree Target new tree) → copied ≡ items → (copies_any copied ≡ true → IsOnlyTree Target two.log two.told.target) → LogsPass (has_any gives_props items) (Gives (given rules moment) two.told) items end.told.target two.log end.log → HasPassed (given rules moment) items two.told end.told.target → IsLasting items end
+lasting rules moment items copied two end law same copies logs gives put =
+    by (has_any gives_props items) refl
+  where
+    by_copies : has_any gives_props items ≡ false → (c : Bool) → copies_any items ≡ c → IsOnlyTree Target end.log end.told.target
+    by_copies none true some =
+        subst (λ (log : List Event). IsOnlyTree Target log end.told.target) (sym (idle_log rules moment two.told items end.told.target two.log end.log none logs))
+        (subst (λ (tree : Tree). IsOnlyTree Target two.log tree) (sym (idle_tree rules moment items two.told end.told.target none gives))
+        (copies (ap copies_any same ∙ some)))
+    by_copies none false other = absurd (true≢false (sym put ∙ none_put items none other))
+
+    by : (b : Bool) → has_any gives_props items ≡ b → IsOnlyTree Target end.log end.told.target
+    by true some = law end.told.target two.log end.log (subst (λ (b : Bool). LogsPass b (Gives (given rules moment) two.told) items end.told.target two.log end.log) some logs)
+    by false none = by_copies none (copies_any items) refl
+
+-- Frames
+
+-- of two steps, the first of which was done
+pub counts_free : (a b c : Part → ℕ) → Counts free a b → Counts free b c → Counts free a c
+counts_free a b c first second = λ part. omega (arith, first part, second part)
+
+counts_on : (at : Part) (n : ℕ) (a b c : Part → ℕ) → Counts free a b → Counts (on at n) b c → Counts (on at n) a c
+counts_on at n a b c first second =
+    let low = first at in
+    let rose = second.0 in
+    (omega (arith, low, rose), λ part. omega (arith, first part, second.1 part))
+
+-- the causes of an answer of the passes
+fault_counts : (e : FinishErr) (a b c : Part → ℕ) → Counts free a b → Counts (finish_cause {T = Unit {0}} 0 (Err e)) b c → Counts (cause_of (ending (unfinished e))) a c
+fault_counts (finish_err.SiteFault side) a b c first second = counts_on (part_for side) 1 a b c first second
+fault_counts finish_err.NoMemory a b c first second = counts_free a b c first second
+
+copy_counts : (e : CopyErr) (a b c : Part → ℕ) → Counts free a b → Counts (copy_cause {T = Unit {0}} (Err e)) b c → Counts (cause_of (ending (uncopied e))) a c
+copy_counts (copy_err.Failed side) a b c first second = counts_on (part_for side) 1 a b c first second
+copy_counts copy_err.NoMemory a b c first second = counts_free a b c first second
+
+-- directories were made, and copies failed
+pub made_then_failed : (tells : Bool) (e : CopyErr) (start one two : Seen) → ChangesSide tells Target free start one → CopiesFiles tells (copy_cause {T = Unit {0}} (Err e)) one two → CopiesFiles tells (cause_of (ending (uncopied e))) start two
+made_then_failed tells e start one two makes copies = record {
+  source = λ told. copies.source told ∙ makes.other_tree told;
+  notes = λ told. copies.notes told ∙ makes.notes told;
+  log = λ told other apart. copies.log told other apart ∙ makes.log told other apart;
+  bound = copies.bound ∙ makes.bound;
+  counts = copy_counts e start.faults one.faults two.faults makes.counts copies.counts;
+}
+
+-- all three passes went on, the last one to some end
+pub three_passes : (tells : Bool) (last cause : Cause) (start one two end : Seen) → ChangesSide tells Target free start one → CopiesFiles tells free one two → ChangesSide tells Target last two end → Counts cause start.faults end.faults → CopiesFiles tells cause start end
+three_passes tells last cause start one two end makes copies gives counts = record {
+  source = λ told. gives.other_tree told ∙ copies.source told ∙ makes.other_tree told;
+  notes = λ told. gives.notes told ∙ copies.notes told ∙ makes.notes told;
+  log = λ told other apart. gives.log told other apart ∙ copies.log told other apart ∙ makes.log told other apart;
+  bound = gives.bound ∙ copies.bound ∙ makes.bound;
+  counts = counts;
+}
+
+pub all_passed : (tells : Bool) (start one two end : Seen) → ChangesSide tells Target free start one → CopiesFiles tells free one two → ChangesSide tells Target free two end → CopiesFiles tells free start end
+all_passed tells start one two end makes copies gives =
+    three_passes tells free free start one two end makes copies gives
+    (counts_free start.faults two.faults end.faults (counts_free start.faults one.faults two.faults makes.counts copies.counts) gives.counts)
+
+pub given_then_failed : (tells : Bool) (e : FinishErr) (start one two end : Seen) → ChangesSide tells Target free start one → CopiesFiles tells free one two → ChangesSide tells Target (finish_cause {T = Unit {0}} 0 (Err e)) two end → CopiesFiles tells (cause_of (ending (unfinished e))) start end
+given_then_failed tells e start one two end makes copies gives =
+    three_passes tells _ _ start one two end makes copies gives
+    (fault_counts e start.faults two.faults end.faults (counts_free start.faults one.faults two.faults makes.counts copies.counts) gives.counts)
+
+-- what all items of a plan have in common
+pub same_copying : (job : Job) (plan : Plan) (rules : Rules) → rules ≡ rules_of job → plan.with_bytes ≡ job.copy.data_bytes → record { rules = rules; with_bytes = plan.with_bytes; moment = plan.moment } ≡ copying_of job plan.moment
+same_copying job plan rules same bytes =
+    ap (λ (r : Rules). record { rules = r; with_bytes = plan.with_bytes; moment = plan.moment }) same
+    ∙ ap (λ (b : Bool). record { rules = rules_of job; with_bytes = b; moment = plan.moment }) bytes

@@ -1,22 +1,26 @@
 -- What the answer of a run says of its job and of the site, at its start and at its end.
-use Rattle.std.specs.Prelude.{◌≡◌, ◌⊎◌, ℕ, ◌≤◌, ◌<◌, Bool, true, false, List, [], ◌∷◌, ◌++◌, Option, Some, None, Result, Ok, Err, if◌then◌else◌}
+use Rattle.std.specs.Prelude.{◌≡◌, ◌⊎◌, ℕ, ◌≤◌, ◌<◌, Bool, true, false, List, [], ◌∷◌, ◌++◌, Option, Some, None, option_map, Result, Ok, Err, if◌then◌else◌}
 use Rattle.rc_job.specs.declared.job.Job.{Job}
+use Rattle.rc_copy.specs.declared.copying.Copying.{Copying}
+use Rattle.rc_copy.specs.declared.err.CopyErr.{CopyErr}
+use Rattle.rc_copy.specs.declared.err.CopyErr.TheVariants as copy_err
+use Rattle.rc_finish.specs.declared.err.FinishErr.{FinishErr}
+use Rattle.rc_finish.specs.declared.err.FinishErr.TheVariants as finish_err
 use Rattle.rc_filter.specs.Acts.{rules_of}
-use Rattle.rc_plan.specs.Plan.{start_in}
-use Rattle.rc_plan.specs.Roots.{are_built}
+use Rattle.rc_plan.specs.declared.plan.PlanErr.{PlanErr}
+use Rattle.rc_plan.specs.declared.plan.PlanErr.TheVariants as plan_err
+use Rattle.rc_plan.specs.Plan.{limit_in, start_in}
 use Rattle.rc_report.specs.Report.{bits_of, report_of, totals_of}
 use Rattle.rc_volume.specs.declared.binding.Binding.{Binding}
 use Rattle.rc_volume.specs.declared.want.Want.{Want}
 use Rattle.rc_volume.specs.Site.{Told}
 use Rattle.rc_volume.specs.Streams.{AppendsFront}
-use Rattle.rc_run.specs.declared.copying.Copying.{Copying}
 use Rattle.rc_run.specs.declared.outcome.Outcome.{Outcome}
-use Rattle.rc_run.specs.declared.outcome.Outcome.TheVariants.{NotYet, NoMemory}
+use Rattle.rc_run.specs.declared.outcome.Outcome.TheVariants.{NotYet, ListFault, TooMany, TooBig, SiteFault, NoMemory}
 use Rattle.rc_run.specs.declared.outcome.Unbuilt.TheVariants as unbuilt
-use Rattle.rc_run.specs.declared.words.Request.{Request}
-use Rattle.rc_run.specs.Copying.{AreBetween}
-use Rattle.rc_run.specs.Goal.{IsMirrored, items_at, wants_of}
+use Rattle.rc_run.specs.Goal.{IsMirrored, items_at}
 use Rattle.rc_run.specs.Outcome.{IfDone, IsOrNoMemory, at_copies, at_limits, at_record, at_report, at_roots, at_words, ending, finished, first_step, last_step, refused}
+use Rattle.rc_run.specs.Under.{AreUnderWay}
 
 -- At its start
 
@@ -24,27 +28,41 @@ abbrev pub is_empty : {A : Type 0} → List A → Bool
 is_empty [] = true
 is_empty (x ∷ xs) = false
 
--- why a site is refused for a job; nothing where it has no record and its trees are those that are mirrored so far
-abbrev pub site_refusal : Job → Told → Option Outcome
-site_refusal job told =
-    if is_empty told.notes
-    then (if are_built job told then None else Some (NotYet unbuilt.Trees))
-    else Some (NotYet unbuilt.Record)
+-- how it is answered that there is no plan
+abbrev pub unplanned : PlanErr → Outcome
+unplanned (plan_err.ListFault side) = ListFault side
+unplanned (plan_err.TooMany side count) = TooMany side count
+unplanned (plan_err.TooBig path size) = TooBig path size
+unplanned plan_err.NoMemory = NoMemory
+
+-- how it is answered that a pass ended in a fault
+abbrev pub unfinished : FinishErr → Outcome
+unfinished (finish_err.SiteFault side) = SiteFault side
+unfinished finish_err.NoMemory = NoMemory
+
+abbrev pub uncopied : CopyErr → Outcome
+uncopied (copy_err.Failed side) = SiteFault side
+uncopied copy_err.NoMemory = NoMemory
+
+-- why a site is refused for a job that began at this moment; nothing where it has no record and no limit is passed
+abbrev pub site_refusal : Job → Told → ℕ → Option Outcome
+site_refusal job told moment =
+    if is_empty told.notes then option_map unplanned (limit_in job told moment) else Some (NotYet unbuilt.Record)
 
 -- why a run is refused; nothing where it is not
-abbrev pub start_refusal : Result Request Outcome → Told → Option Outcome
-start_refusal (Ok request) told = site_refusal request.job told
-start_refusal (Err refusal) told = Some refusal
+abbrev pub start_refusal : Result Job Outcome → Told → ℕ → Option Outcome
+start_refusal (Ok job) told moment = site_refusal job told moment
+start_refusal (Err refusal) told moment = Some refusal
 
 -- what an answer to words that are accepted says of the site, where it tells
-pub record Answers (tells : Bool) (job : Job) (told : Told) (outcome : Outcome) : Type 0 where
+pub record Answers (tells : Bool) (job : Job) (told : Told) (moment : ℕ) (outcome : Outcome) : Type 0 where
   -- it is no refusal of words
   pub behind_words : at_words < last_step (ending outcome)
   -- a refusal is that of the site
-  pub refusal : (step : ℕ) → ending outcome ≡ refused step → tells ≡ true → site_refusal job told ≡ Some outcome
-  -- what comes behind the look at the record or at the trees says that they were accepted
+  pub refusal : (step : ℕ) → ending outcome ≡ refused step → tells ≡ true → site_refusal job told moment ≡ Some outcome
+  -- what comes behind the look at the record or at the limits says that they were accepted
   pub no_record : at_record < first_step (ending outcome) → tells ≡ true → told.notes ≡ []
-  pub built : at_limits < first_step (ending outcome) → tells ≡ true → are_built job told ≡ true
+  pub within : at_limits < first_step (ending outcome) → tells ≡ true → limit_in job told moment ≡ None
 
 -- what a run for which nothing failed answers, but for want of memory: its refusal, or that it is done
 abbrev pub IsExpected : Option Outcome → Outcome → Type 0
@@ -53,7 +71,7 @@ IsExpected (Some refusal) outcome = IsOrNoMemory refusal outcome
 
 -- At its end
 
--- what the copies of a job have in common
+-- what all items of a job have in common
 abbrev pub copying_of : Job → ℕ → Copying
 copying_of job moment = record { rules = rules_of job; with_bytes = job.copy.data_bytes; moment = moment }
 
@@ -63,14 +81,10 @@ pub record RunLeaves (job : Job) (moment : ℕ) (start end : Told) (outcome : Ou
   pub mirrored : at_report ≤ first_step (ending outcome) → IsMirrored (start_in job start) moment end
   -- before them all is as it was
   pub unchanged : last_step (ending outcome) < at_copies → end ≡ start
-  -- and else each key of the target is as it was, or its item copies a file that is on its way
-  pub between : AreBetween (copying_of job moment) (items_at job start moment) start end.target
+  -- and else each key of the target is as it was, or its item has begun to change it
+  pub between : AreUnderWay (copying_of job moment) (items_at job start moment) start end.target
   pub source : end.source ≡ start.source
   pub notes : end.notes ≡ start.notes
-
--- all that a run of a job reads, where it began at this moment
-abbrev pub read_by : Job → ℕ → Told → List Want
-read_by job moment start = wants_of 0 job.copy.data_bytes (items_at job start moment)
 
 -- what readers were made for when a run has ended: as before, or these wants behind it, as at Done
 abbrev pub IsOpened : Outcome → List Want → List Want → List Want → Type 0

@@ -1,6 +1,5 @@
 pub mod Answers
-pub mod Copying
 pub mod Goal
 pub mod Outcome
-pub mod Reading
+pub mod Under
 pub mod Words

@@ -1,6 +1,7 @@
 -- The outcomes of a run in one table: at which step each comes, and which part failed. All else that is said of them is
 -- looked up there.
-use Rattle.std.specs.Prelude.{◌≡◌, ◌⊎◌, ℕ, ◌≤◌, Bool, true, false, List, [], ◌∷◌, ◌++◌, codes, decimal, Result, Ok, Err}
+use Rattle.std.specs.Prelude.{◌≡◌, ◌⊎◌, ℕ, ◌≤◌, Bool, true, false, List, [], ◌∷◌, ◌++◌, chars, codes, decimal, Result, Ok, Err}
+use Rattle.rc_report.specs.Report.{path_text}
 use Rattle.rc_volume.specs.declared.site.Part.{Part}
 use Rattle.rc_volume.specs.declared.site.Part.TheVariants as part
 use Rattle.rc_volume.specs.declared.site.Side.{Side}
@@ -8,7 +9,7 @@ use Rattle.rc_volume.specs.declared.site.Side.TheVariants as side
 use Rattle.rc_volume.specs.Faults.{Cause, Counts, RisesIf, free, on, part_for}
 use Rattle.rc_volume.specs.Site.{Seen}
 use Rattle.rc_run.specs.declared.outcome.Outcome.{Outcome}
-use Rattle.rc_run.specs.declared.outcome.Outcome.TheVariants.{Done, Usage, NotYet, RootFault, ListFault, RecordFault, SiteFault, SinkFault, NoMemory}
+use Rattle.rc_run.specs.declared.outcome.Outcome.TheVariants.{Done, Usage, NotYet, RootFault, ListFault, TooMany, TooBig, RecordFault, SiteFault, SinkFault, NoMemory}
 use Rattle.rc_run.specs.declared.outcome.Unbuilt.{Unbuilt}
 use Rattle.rc_run.specs.declared.outcome.Unbuilt.TheVariants as unbuilt
 
@@ -54,7 +55,6 @@ pub data Ending : Type 0 where
 -- where what is not built yet is found out
 abbrev pub unbuilt_step : Unbuilt → ℕ
 unbuilt_step unbuilt.Words = at_words
-unbuilt_step unbuilt.Trees = at_limits
 unbuilt_step unbuilt.Record = at_record
 
 -- the table
@@ -65,6 +65,8 @@ ending (NotYet what) = refused (unbuilt_step what)
 ending (RootFault side) = failed at_roots (part_for side)
 ending RecordFault = failed at_record part.Record
 ending (ListFault side) = failed at_listing (part_for side)
+ending (TooMany side count) = refused at_limits
+ending (TooBig path size) = refused at_limits
 ending (SiteFault side) = failed at_copies (part_for side)
 ending SinkFault = unreported
 ending NoMemory = out_of_memory
@@ -147,7 +149,6 @@ side_name side.Target = codes "target"
 -- the number of what is not built yet
 abbrev pub unbuilt_number : Unbuilt → ℕ
 unbuilt_number unbuilt.Words = 1
-unbuilt_number unbuilt.Trees = 2
 unbuilt_number unbuilt.Record = 3
 
 -- where the word stands: on the command line, or in a job file
@@ -162,6 +163,8 @@ line_of (Usage file place kind) = codes "ERROR: usage U" ++ decimal kind ++ code
 line_of (NotYet what) = codes "ERROR: not built yet: " ++ decimal (unbuilt_number what)
 line_of (RootFault side) = codes "ERROR: root fault: " ++ side_name side
 line_of (ListFault side) = codes "ERROR: listing fault: " ++ side_name side
+line_of (TooMany side count) = codes "ERROR: too many entries: " ++ side_name side ++ codes " " ++ decimal count
+line_of (TooBig path size) = codes "ERROR: file too big: " ++ chars (path_text path) ++ codes " " ++ decimal size
 line_of RecordFault = codes "ERROR: record fault"
 line_of (SiteFault side) = codes "ERROR: volume fault: " ++ side_name side
 line_of SinkFault = codes "ERROR: report fault"

@@ -4,13 +4,10 @@
 //! words and the two trees on which it started, and that the report and the bits are those of the same decisions.
 #![tactic(auto)]
 
-mod copying;
-mod filling;
-mod finishing;
 mod outcome;
 mod run;
+mod trees;
 mod words;
 
 pub use outcome::{Outcome, Unbuilt, outcome_text, status};
 pub use run::{Ended, mirror_alone};
-pub use words::Request;

@@ -1,19 +1,19 @@
 //! How a run ended.
 
 ghost use Rattle.std.specs.Prelude.{◌≡◌, ◌++◌, IfOk, chars, codes, decimal, string_bytes};
+ghost use Rattle.rc_report.specs.Report.{path_text};
 ghost use Rattle.rc_run.specs.Outcome.{status_of, line_of, side_name, unbuilt_number};
 
-use rc_tree::{NoMemory, Text};
+use rc_report::push_path;
+use rc_tree::{NoMemory, Path, Text};
 use rc_volume::Side;
 use std::alloc::{AllocError, Global};
 
 /// What a run would need that is not built yet.
 #[derive(Clone, Copy, Debug, PartialEq, Eq)]
 pub enum Unbuilt {
-    /// A word that asks for something else than two plain roots and the switches that are built.
+    /// A switch that has no effect in a run yet.
     Words,
-    /// A directory in a root, or a file of more than 2^40 bytes in the source's where copies have bytes.
-    Trees,
     /// A record of a run.
     Record,
 }
@@ -33,6 +33,10 @@ pub enum Outcome {
     RootFault { side: Side },
     /// A directory could not be listed.
     ListFault { side: Side },
+    /// This side has more than 500000 decided entries: at least `count`. The source is looked at first.
+    TooMany { side: Side, count: u64 },
+    /// This file would be copied, and has more than 2^40 bytes: `size`. Of several, the one with the least key.
+    TooBig { path: Path, size: u64 },
     /// The record failed.
     RecordFault,
     /// A tree could not be read or changed.
@@ -70,6 +74,8 @@ fn line_of(alloc: Global, outcome: &Outcome) -> Result<String, AllocError>
         Outcome::NotYet { what } => not_yet_line(alloc, *what),
         Outcome::RootFault { side } => fault_line(alloc, "root", *side),
         Outcome::ListFault { side } => fault_line(alloc, "listing", *side),
+        Outcome::TooMany { side, count } => too_many_line(alloc, *side, *count),
+        Outcome::TooBig { path, size } => too_big_line(alloc, path, *size),
         Outcome::RecordFault => String::from_str(alloc, "ERROR: record fault"),
         Outcome::SiteFault { side } => fault_line(alloc, "volume", *side),
         Outcome::SinkFault => String::from_str(alloc, "ERROR: report fault"),
@@ -112,7 +118,6 @@ fn unbuilt_number(what: Unbuilt) -> u8
 {
     match what {
         Unbuilt::Words => 1,
-        Unbuilt::Trees => 2,
         Unbuilt::Record => 3,
     }
 }
@@ -123,6 +128,30 @@ fn fault_line(alloc: Global, what: &str, side: Side) -> Result<String, AllocErro
 {
     let side = side_name(side);
     format!(in alloc; "ERROR: {what} fault: {side}")
+}
+
+fn too_many_line(alloc: Global, side: Side, count: u64) -> Result<String, AllocError>
+    ensures { IfOk result (λ line. string_bytes line
+        ≡ codes "ERROR: too many entries: " ++ side_name side ++ codes " " ++ decimal count) }
+{
+    let side = side_name(side);
+    format!(in alloc; "ERROR: too many entries: {side} {count}")
+}
+
+fn too_big_line(alloc: Global, path: &Path, size: u64) -> Result<String, AllocError>
+    ensures { IfOk result
+        (λ line. chars (string_bytes line) ≡ line_of (Outcome.TooBig path.now size)) }
+{
+    let path = path_text(alloc, path)?;
+    format!(in alloc; "ERROR: file too big: {path} {size}")
+}
+
+fn path_text(alloc: Global, path: &Path) -> Result<String, AllocError>
+    ensures { IfOk result (λ text. string_bytes text ≡ path_text path.now) }
+{
+    let mut text = String::new(alloc);
+    push_path(&mut text, path)?;
+    Ok(text)
 }
 
 fn side_name(side: Side) -> &'static str

@@ -1,30 +1,32 @@
 //! The steps of a run, in their order.
 
-ghost use Rattle.std.specs.Prelude.{◌≡◌, ◌⊎◌, ◌+◌, ◌<◌, ◌≤◌, ◌++◌, ◌∷◌, ℕ, true, false, [], IfOk, IfErr, OnOk, min};
+ghost use Rattle.std.specs.Prelude.{◌≡◌, ◌⊎◌, ◌+◌, ◌<◌, ◌≤◌, ◌++◌, ◌∷◌, ℕ, true, false, [], None, Some, chars, option_map, IfOk, IfErr, OnOk, min};
 ghost use Rattle.rc_class.specs.Start.{IsPlanOf};
-ghost use Rattle.rc_plan.specs.Plan.{start_in, IsMadeFor};
-ghost use Rattle.rc_plan.specs.Roots.{are_built, AreTrees};
+ghost use Rattle.rc_copy.specs.Copying.{CopiesFiles};
+ghost use Rattle.rc_copy.specs.Reading.{wants_of};
+ghost use Rattle.rc_jobfiles.specs.Ask.{texts};
+ghost use Rattle.rc_plan.specs.Plan.{limit_in, start_in, AreTrees, IsMadeFor};
 ghost use Rattle.rc_report.specs.Report.{bits_of, report_of, totals_of};
 ghost use Rattle.rc_volume.specs.declared.site.Part.{Part};
 ghost use Rattle.rc_volume.specs.Faults.{free, last_count, RoseBy};
 ghost use Rattle.rc_volume.specs.Frames.{Binds, IsBound, Looks};
 ghost use Rattle.rc_volume.specs.Log.{LogsOn};
 ghost use Rattle.rc_volume.specs.Streams.{AppendsFront};
-ghost use Rattle.rc_run.specs.Answers.{is_empty, read_by, start_refusal, Answers, AreBitsOf, IsExpected, IsNamed, IsOpened, IsSilentBefore, RunLeaves, Sends};
-ghost use Rattle.rc_run.specs.Copying.{CopiesFiles, IsDurable};
-ghost use Rattle.rc_run.specs.Goal.{items_at, wants_of};
+ghost use Rattle.rc_run.specs.Answers.{is_empty, site_refusal, start_refusal, unplanned, Answers, AreBitsOf, IsExpected, IsNamed, IsOpened, IsSilentBefore, RunLeaves, Sends};
+ghost use Rattle.rc_run.specs.Goal.{items_at, read_by};
 ghost use Rattle.rc_run.specs.Outcome.{at_copies, at_end, at_limits, at_listing, at_record, at_report, at_roots, cause_of, ending, finished, first_step, last_step, run_cause, Causes, CausesInSink, EndsAt, IfDone, IsOrNoMemory};
-ghost use Rattle.rc_run.specs.Words.{asked, binding_of, texts, IfAccepted, IfRefused};
+ghost use Rattle.rc_run.specs.Under.{IsLasting};
+ghost use Rattle.rc_run.specs.Words.{asked, binding_of, root_text, IfAccepted, IfRefused};
 
-use crate::copying::{CopyErr, Copying, copy_items};
-use crate::words::{Request, read_words};
+use crate::trees::change_trees;
+use crate::words::read_words;
 use crate::{Outcome, Unbuilt};
 use rc_class::Plan;
-use rc_filter::{decided_items, plans_have_the_planned_items, rules};
+use rc_filter::plans_have_the_planned_items;
 use rc_job::Job;
 use rc_plan::{PlanErr, make_plan};
 use rc_report::{bits, count_totals, report_to};
-use rc_tree::{Moment, Scan};
+use rc_tree::{Moment, Scan, Text};
 use rc_volume::{BindErr, Clock, JobStore, Sink, SinkErr, Site, SiteErr};
 use std::alloc::Global;
 
@@ -56,49 +58,51 @@ pub fn mirror_alone<S: Site, J: JobStore, K: Sink, C: Clock>(
     ensures jobs { jobs.new ≡ jobs.old }
 
     // Words that are accepted: what is answered, and why.
-    ensures answers { IfAccepted (texts words.now) (λ request.
-        Answers S.tells request.job (S.view site).told result.outcome) }
+    ensures answers { IfAccepted (texts words.now) (λ job.
+        Answers S.tells job (S.view site).told (C.last clock.new) result.outcome) }
     ensures cause { Causes result.outcome (S.view site) (S.view result.site) }
     ensures sink_cause { CausesInSink result.outcome (K.faults sink.old) (K.faults sink.new) }
     ensures complete { S.tells ≡ true →
         ((part : Part) →
         RoseBy 1 ((S.view site).faults part) ((S.view result.site).faults part) → ⊥) →
         (RoseBy 1 (K.faults sink.old) (K.faults sink.new) → ⊥) →
-        IsExpected (start_refusal (asked (texts words.now)) (S.view site).told) result.outcome }
+        IsExpected
+        (start_refusal (asked (texts words.now)) (S.view site).told (C.last clock.new))
+        result.outcome }
 
     // What becomes of the site.
-    ensures leaves { S.tells ≡ true → IfAccepted (texts words.now) (λ request.
-        RunLeaves request.job (C.last clock.new)
+    ensures leaves { S.tells ≡ true → IfAccepted (texts words.now) (λ job.
+        RunLeaves job (C.last clock.new)
         (S.view site).told (S.view result.site).told result.outcome) }
-    // Where an item copied a file, a stop behind the copies leaves of the target what reads, and nothing else. Nothing of
+    // Where an item changed the target, a stop behind the changes leaves of it what reads, and nothing else. Nothing of
     // the source and the record is touched.
-    ensures durable { S.tells ≡ true → IfAccepted (texts words.now) (λ request.
+    ensures lasting { S.tells ≡ true → IfAccepted (texts words.now) (λ job.
         at_report ≤ first_step (ending result.outcome) →
-        IsDurable (items_at request.job (S.view site).told (C.last clock.new))
+        IsLasting (items_at job (S.view site).told (C.last clock.new))
         (S.view result.site)) }
     ensures others { S.tells ≡ true →
         LogsOn Part.Target (S.view site).log (S.view result.site).log }
-    ensures opened { S.tells ≡ true → IfAccepted (texts words.now) (λ request.
-        IsOpened result.outcome (read_by request.job (C.last clock.new) (S.view site).told)
+    ensures opened { S.tells ≡ true → IfAccepted (texts words.now) (λ job.
+        IsOpened result.outcome (read_by job (C.last clock.new) (S.view site).told)
         (S.view site).opened (S.view result.site).opened) }
     ensures unopened { last_step (ending result.outcome) < at_copies →
         (S.view result.site).opened ≡ (S.view site).opened }
-    ensures bound { IfAccepted (texts words.now) (λ request.
-        IsNamed result.outcome (binding_of request (C.last clock.new))
+    ensures bound { IfAccepted (texts words.now) (λ job.
+        IsNamed result.outcome (binding_of job (C.last clock.new))
         (S.view site).bound (S.view result.site).bound) }
 
     // What is reported.
-    ensures bits { S.tells ≡ true → IfAccepted (texts words.now) (λ request.
-        IfDone result.outcome (AreBitsOf request.job (S.view site).told)) }
+    ensures bits { S.tells ≡ true → IfAccepted (texts words.now) (λ job.
+        IfDone result.outcome (AreBitsOf job (S.view site).told)) }
     ensures moment { IfDone result.outcome (λ _ moment. moment ≡ C.last clock.new) }
-    ensures sends { S.tells ≡ true → K.tells ≡ true → IfAccepted (texts words.now) (λ request.
-        Sends request.job (C.last clock.new) (S.view site).told result.outcome
+    ensures sends { S.tells ≡ true → K.tells ≡ true → IfAccepted (texts words.now) (λ job.
+        Sends job (C.last clock.new) (S.view site).told result.outcome
         (K.received sink.old) (K.received sink.new)) }
     ensures silent { last_step (ending result.outcome) < at_report →
         K.received sink.new ≡ K.received sink.old }
-    ensures reported { S.tells ≡ true → IfAccepted (texts words.now) (λ request.
+    ensures reported { S.tells ≡ true → IfAccepted (texts words.now) (λ job.
         IsSilentBefore (K.received sink.old) (K.received sink.new)
-        request.job (C.last clock.new) (S.view site).told (S.view result.site).told) }
+        job (C.last clock.new) (S.view site).told (S.view result.site).told) }
 
     // The clock is read once behind the words, and never waited by.
     ensures clock { C.tells ≡ true → C.always clock.new ≡ C.always clock.old }
@@ -110,8 +114,8 @@ pub fn mirror_alone<S: Site, J: JobStore, K: Sink, C: Clock>(
     let mut site = site;
     let _ = jobs;
     match read_words(alloc, words) {
-        Ok(request) => {
-            let outcome = run(alloc, &request, &mut site, sink, clock);
+        Ok(job) => {
+            let outcome = run(alloc, &job, &mut site, sink, clock);
             Ended { site, outcome }
         }
         Err(outcome) => Ended { site, outcome },
@@ -121,66 +125,67 @@ pub fn mirror_alone<S: Site, J: JobStore, K: Sink, C: Clock>(
 // The steps of a run behind its words.
 fn run<S: Site, K: Sink, C: Clock>(
     alloc: Global,
-    request: &Request,
+    job: &Job,
     site: &mut S,
     sink: &mut K,
     clock: &mut C,
 ) -> Outcome
-    ensures answers { Answers S.tells request.now.job (S.view site.old).told result }
+    ensures answers { Answers S.tells job.now
+        (S.view site.old).told (C.last clock.new) result }
     ensures cause { Causes result (S.view site.old) (S.view site.new) }
     ensures sink_cause { CausesInSink result (K.faults sink.old) (K.faults sink.new) }
-    ensures leaves { S.tells ≡ true → RunLeaves request.now.job (C.last clock.new)
+    ensures leaves { S.tells ≡ true → RunLeaves job.now (C.last clock.new)
         (S.view site.old).told (S.view site.new).told result }
-    ensures durable { S.tells ≡ true → at_report ≤ first_step (ending result) →
-        IsDurable (items_at request.now.job (S.view site.old).told (C.last clock.new))
+    ensures lasting { S.tells ≡ true → at_report ≤ first_step (ending result) →
+        IsLasting (items_at job.now (S.view site.old).told (C.last clock.new))
         (S.view site.new) }
     ensures others { S.tells ≡ true →
         LogsOn Part.Target (S.view site.old).log (S.view site.new).log }
     ensures opened { S.tells ≡ true → IsOpened result
-        (read_by request.now.job (C.last clock.new) (S.view site.old).told)
+        (read_by job.now (C.last clock.new) (S.view site.old).told)
         (S.view site.old).opened (S.view site.new).opened }
     ensures unopened { last_step (ending result) < at_copies →
         (S.view site.new).opened ≡ (S.view site.old).opened }
-    ensures bound { IsNamed result (binding_of request.now (C.last clock.new))
+    ensures bound { IsNamed result (binding_of job.now (C.last clock.new))
         (S.view site.old).bound (S.view site.new).bound }
     ensures bits { S.tells ≡ true →
-        IfDone result (AreBitsOf request.now.job (S.view site.old).told) }
+        IfDone result (AreBitsOf job.now (S.view site.old).told) }
     ensures moment { IfDone result (λ _ moment. moment ≡ C.last clock.new) }
     ensures sends { S.tells ≡ true → K.tells ≡ true →
-        Sends request.now.job (C.last clock.new) (S.view site.old).told result
+        Sends job.now (C.last clock.new) (S.view site.old).told result
         (K.received sink.old) (K.received sink.new) }
     ensures silent { last_step (ending result) < at_report →
         K.received sink.new ≡ K.received sink.old }
     ensures reported { S.tells ≡ true →
         IsSilentBefore (K.received sink.old) (K.received sink.new)
-        request.now.job (C.last clock.new) (S.view site.old).told (S.view site.new).told }
+        job.now (C.last clock.new) (S.view site.old).told (S.view site.new).told }
     ensures clock { C.tells ≡ true → C.always clock.new ≡ C.always clock.old }
     ensures read { C.reads clock.new ≡ min (C.reads clock.old + 1) last_count }
     ensures no_pause { C.pauses clock.new ≡ C.pauses clock.old }
 {
-    let moment = match start(alloc, request, site, clock) {
+    let moment = match start(alloc, job, site, clock) {
         Ok(moment) => moment,
         Err(e) => return e,
     };
-    let plan = match plan(alloc, site, &request.job, moment, clock) {
+    let plan = match plan(alloc, site, job, moment, clock) {
         Ok(plan) => plan,
         Err(e) => return e,
     };
-    carry_out(alloc, site, sink, &request.job, &plan)
+    carry_out(alloc, site, sink, job, &plan, clock)
 }
 
 // Reads the clock, names the roots and looks that there is no record.
 fn start<S: Site, C: Clock>(
     alloc: Global,
-    request: &Request,
+    job: &Job,
     site: &mut S,
     clock: &mut C,
 ) -> Result<Moment, Outcome>
     ensures frame { Binds S.tells (run_cause result) (S.view site.old) (S.view site.new) }
-    ensures bound { IsBound result (binding_of request.now (C.last clock.new))
+    ensures bound { IsBound result (binding_of job.now (C.last clock.new))
         (S.view site.old).bound (S.view site.new).bound }
     ensures named { IfErr result (λ e. at_roots < first_step (ending e) →
-        let binding = binding_of request.now (C.last clock.new) in
+        let binding = binding_of job.now (C.last clock.new) in
         (S.view site.new).bound ≡ (S.view site.old).bound ++ binding ∷ []) }
     ensures no_record { S.tells ≡ true → OnOk result ((S.view site.old).told.notes ≡ []) }
     ensures ends { IfErr result (λ e. EndsAt at_roots at_record
@@ -191,7 +196,7 @@ fn start<S: Site, C: Clock>(
     ensures read { C.reads clock.new ≡ min (C.reads clock.old + 1) last_count }
     ensures no_pause { C.pauses clock.new ≡ C.pauses clock.old }
 {
-    match bind(alloc, request, site, clock) {
+    match bind(alloc, job, site, clock) {
         Ok(moment) => match expect_no_record(alloc, site) {
             Ok(()) => Ok(moment),
             Err(e) => Err(e),
@@ -203,12 +208,12 @@ fn start<S: Site, C: Clock>(
 // Reads the clock and names the roots.
 fn bind<S: Site, C: Clock>(
     alloc: Global,
-    request: &Request,
+    job: &Job,
     site: &mut S,
     clock: &mut C,
 ) -> Result<Moment, Outcome>
     ensures frame { Binds S.tells (run_cause result) (S.view site.old) (S.view site.new) }
-    ensures bound { IsBound result (binding_of request.now (C.last clock.new))
+    ensures bound { IsBound result (binding_of job.now (C.last clock.new))
         (S.view site.old).bound (S.view site.new).bound }
     ensures ends { IfErr result (λ e. EndsAt at_roots at_roots ⊥ (ending e)) }
     ensures moment { IfOk result (λ moment. moment ≡ C.last clock.new) }
@@ -217,11 +222,21 @@ fn bind<S: Site, C: Clock>(
     ensures no_pause { C.pauses clock.new ≡ C.pauses clock.old }
 {
     let moment = clock.moment();
-    let (source, target) = (request.source.text(), request.target.text());
+    let (source, target) = (root_text(&job.source), root_text(&job.target));
     match site.bind(alloc, source, target, Scan::Size, moment) {
         Ok(()) => Ok(Moment::new(moment)),
         Err(BindErr::Failed { side }) => Err(Outcome::RootFault { side }),
         Err(BindErr::NoMemory) => Err(Outcome::NoMemory),
+    }
+}
+
+// A root as a job names it; the empty text where it names none.
+fn root_text(root: &Option<Text>) -> &str
+    ensures { chars result.now ≡ root_text root.now }
+{
+    match root {
+        Some(root) => root.text(),
+        None => "",
     }
 }
 
@@ -254,29 +269,38 @@ fn plan<S: Site, C: Clock>(
     ensures plan { S.tells ≡ true →
         IfOk result (IsPlanOf (start_in job.now (S.view site.old).told)) }
     ensures trees { S.tells ≡ true → OnOk result (AreTrees (S.view site.old).told) }
-    ensures built { S.tells ≡ true → OnOk result (are_built job.now (S.view site.old).told ≡ true) }
-    ensures ends { IfErr result (λ e. EndsAt at_listing at_limits
-        ((e ≡ Outcome.NotYet Unbuilt.Trees)
-        × (S.tells ≡ true → are_built job.now (S.view site.old).told ≡ false)) (ending e)) }
+    ensures within { S.tells ≡ true →
+        OnOk result (limit_in job.now (S.view site.old).told moment ≡ None) }
+    ensures ends { IfErr result (λ e. EndsAt at_listing at_limits (S.tells ≡ true →
+        option_map unplanned (limit_in job.now (S.view site.old).told moment) ≡ Some e)
+        (ending e)) }
     ensures made { IfOk result (IsMadeFor job.now moment) }
 {
     match make_plan(alloc, job, moment, site, clock) {
         Ok(plan) => Ok(plan),
-        Err(PlanErr::ListFault { side }) => Err(Outcome::ListFault { side }),
-        Err(PlanErr::NotBuilt) => Err(Outcome::NotYet {
-            what: Unbuilt::Trees,
-        }),
-        Err(PlanErr::NoMemory) => Err(Outcome::NoMemory),
+        Err(e) => Err(unplanned(e)),
+    }
+}
+
+fn unplanned(e: PlanErr) -> Outcome
+    ensures { result ≡ unplanned e }
+{
+    match e {
+        PlanErr::ListFault { side } => Outcome::ListFault { side },
+        PlanErr::TooMany { side, count } => Outcome::TooMany { side, count },
+        PlanErr::TooBig { path, size } => Outcome::TooBig { path, size },
+        PlanErr::NoMemory => Outcome::NoMemory,
     }
 }
 
 // Does what the plan says, and writes the report.
-fn carry_out<S: Site, K: Sink>(
+fn carry_out<S: Site, K: Sink, C: Clock>(
     alloc: Global,
     site: &mut S,
     sink: &mut K,
     job: &Job,
     plan: &Plan,
+    clock: &mut C,
 ) -> Outcome
     requires plan { S.tells ≡ true → IsPlanOf (start_in job.now (S.view site.old).told) plan.now }
     requires trees { S.tells ≡ true → AreTrees (S.view site.old).told }
@@ -289,8 +313,8 @@ fn carry_out<S: Site, K: Sink>(
     ensures ends { EndsAt at_copies at_end ⊥ (ending result) }
     ensures leaves { S.tells ≡ true → RunLeaves job.now plan.now.moment
         (S.view site.old).told (S.view site.new).told result }
-    ensures durable { S.tells ≡ true → at_report ≤ first_step (ending result) →
-        IsDurable plan.now.items (S.view site.new) }
+    ensures lasting { S.tells ≡ true → at_report ≤ first_step (ending result) →
+        IsLasting plan.now.items (S.view site.new) }
     ensures opened { IsOpened result (wants_of 0 job.now.copy.data_bytes plan.now.items)
         (S.view site.old).opened (S.view site.new).opened }
     ensures items { S.tells ≡ true →
@@ -306,18 +330,15 @@ fn carry_out<S: Site, K: Sink>(
     ensures reported { S.tells ≡ true →
         IsSilentBefore (K.received sink.old) (K.received sink.new)
         job.now plan.now.moment (S.view site.old).told (S.view site.new).told }
+    ensures clock { C.tells ≡ true → C.always clock.new ≡ C.always clock.old }
+    ensures last { C.last clock.new ≡ C.last clock.old }
+    ensures unread { C.reads clock.new ≡ C.reads clock.old }
+    ensures no_pause { C.pauses clock.new ≡ C.pauses clock.old }
 {
-    let copying = Copying {
-        rules: rules(job),
-        with_bytes: plan.with_bytes,
-        moment: plan.moment,
-    };
-    decided_items();
     plans_have_the_planned_items();
-    match copy_items(alloc, site, &copying, plan.items.items()) {
+    match change_trees(alloc, site, job, plan, clock) {
         Ok(()) => write_report(alloc, sink, plan),
-        Err(CopyErr::Failed { side }) => Outcome::SiteFault { side },
-        Err(CopyErr::NoMemory) => Outcome::NoMemory,
+        Err(e) => e,
     }
 }
 

@@ -1,9 +1,13 @@
 //! Worked rows: what a stop may leave at a key behind a few calls, and what it may not.
 
-ghost use Rattle.std.specs.Prelude.{◌≡◌, ◌⊎◌, ◌≤◌, ℕ, List, [], ◌∷◌, Option, Some, None, slice_get};
-ghost use Rattle.rc_tree.specs.Tree.{Node};
-ghost use Rattle.rc_volume.specs.Log.{make, put, remove, resize, set_props};
-ghost use Rattle.rc_site_rows.specs.Stops.{row_file, size_at, times, Leaves};
+ghost use Rattle.std.specs.Prelude.{◌≡◌, ◌⊎◌, ◌≤◌, ℕ, List, [], ◌∷◌, Option, Some, None, Err, slice_get};
+ghost use Rattle.std.specs.FinMap.{empty, get, insert};
+ghost use Rattle.rc_tree.specs.Tree.{IsTree, Node, Tree};
+ghost use Rattle.rc_volume.specs.declared.site.Side.TheVariants.{Source, Target};
+ghost use Rattle.rc_volume.specs.declared.site.SiteErr.{SiteErr};
+ghost use Rattle.rc_volume.specs.Images.{IsOnlyTree, MayLeave};
+ghost use Rattle.rc_volume.specs.Log.{Event, LogsSync, changed, make, put, remove, resize, set_props, synced};
+ghost use Rattle.rc_site_rows.specs.Stops.{child_key, child_log, row_directory, row_file, row_key, size_at, times, Leaves};
 ghost use Rattle.rc_volume.specs.Site.{with_props};
 
 /// A file is made, gets a length of two, and its first byte is put.
@@ -57,4 +61,30 @@ pub fn a_file_removed_and_made_again()
     ensures no_longer { (left : Option Node) →
         Leaves (Some (row_file (1 ∷ 2 ∷ []))) (remove ∷ make (row_file []) ∷ []) left →
         size_at left ≤ 2 }
+{}
+
+/// A directory and a file in it are made: the directory may be left alone, and the file never without it.
+pub fn a_directory_and_its_child()
+    ensures neither { MayLeave Target child_log empty }
+    ensures alone { IsTree (insert empty row_key row_directory) →
+        MayLeave Target child_log (insert empty row_key row_directory) }
+    ensures never_alone { (image : Tree) → MayLeave Target child_log image →
+        get image row_key ≡ None → get image child_key ≡ None }
+{}
+
+/// A sync that failed leaves what might have been left before it.
+pub fn a_failed_sync()
+    ensures { (e : SiteErr) (tree image : Tree) (old new : List Event) →
+        LogsSync {T = Unit {0}} (Err e) (synced Target tree) old new →
+        MayLeave Target old image → MayLeave Target new image }
+{}
+
+/// A file is made on the target: of the source the tree that was synced is left, and no other.
+pub fn two_sides()
+    ensures source { (tree : Tree) → IsTree tree →
+        IsOnlyTree Source (synced Source tree ∷ synced Target empty ∷
+        changed Target row_key (make (row_file [])) ∷ []) tree }
+    ensures target { (tree : Tree) →
+        MayLeave Target (synced Source tree ∷ synced Target empty ∷
+        changed Target row_key (make (row_file [])) ∷ []) empty }
 {}

@@ -1,7 +1,9 @@
-//! Worked rows of the calls on values: names, patterns, dates, words, jobs, classes and decisions. They stand apart from
-//! the crates that they call, which are so proved once and not once more for their tests.
+//! Worked rows of the calls on values: names, patterns, dates, words, what they ask for, jobs, classes and decisions. They
+//! stand apart from the crates that they call, which are so proved once and not once more for their tests.
 #![tactic(auto)]
 
+#[cfg(test)]
+mod asks;
 #[cfg(test)]
 mod classes;
 #[cfg(test)]

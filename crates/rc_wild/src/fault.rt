@@ -96,8 +96,8 @@ fn is_path_char(c: char) -> bool
     c >= ' ' && !matches!(c, '"' | '<' | '>' | '|')
 }
 
-// `\`, or `/`, which is read as `\`.
-pub(crate) fn is_separator(c: char) -> bool
+/// `\`, or `/`, which is read as `\`.
+pub fn is_separator(c: char) -> bool
     ensures { result ≡ is_separator c }
 {
     c == '\\' || c == '/'

@@ -15,7 +15,8 @@ mod pattern;
 mod text;
 mod walk;
 
-pub use fault::PatternErr;
+pub use fault::{PatternErr, is_separator};
 pub use laws::{matching_by_cases, matching_by_folding};
+pub use parts::next_part;
 pub use path_pattern::PathPattern;
 pub use pattern::Pattern;

@@ -30,8 +30,9 @@ pub(crate) fn behind_root<'a>(root: &str, value: &'a str) -> Option<&'a str>
     }
 }
 
-// The first part of a text, and the text that follows it.
-pub(crate) fn next_part(text: &str) -> Option<(&str, &str)>
+/// The first part of a root's or a value's text, and the text that follows it. A part stands between separators, and is
+/// neither empty nor `.`.
+pub fn next_part(text: &str) -> Option<(&str, &str)>
     ensures { MatchOption result
         (parts_of (chars text.now) ≡ [])
         (λ first. parts_of (chars text.now) ≡ chars first.0.now ∷ parts_of (chars first.1.now)) }

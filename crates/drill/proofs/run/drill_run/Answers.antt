@@ -2,7 +2,7 @@ use Rattle.std.proofs.Common.{◌≡◌, List, ℕ, Err, ap, drop}
 use Rattle.rc_volume.specs.Faults.{RoseBy}
 use Rattle.drill.specs.Drilling.{Drills, OfSome}
 use Rattle.drill.proofs.Drills.{file_drilled, of_told, stop_drilled, stop_read, stop_rose}
-use Rattle.rc_run.specs.Words.{texts}
+use Rattle.rc_jobfiles.specs.Ask.{texts}
 use Rattle.drill.proofs.run.drill_run.Goals as goal
 
 pub returns-in-Ok-clause-drilled : goal.returns-in-Ok-clause-drilled

@@ -2,7 +2,8 @@ use Rattle.std.proofs.Common.{List, ℕ, refl, ap, ◌∙◌}
 use Rattle.rc_volume.specs.Site.{Told}
 use Rattle.rc_mem.specs.declared.clock.FixedClock.{FixedClock}
 use Rattle.rc_mem.specs.MemSite.{told_by}
-use Rattle.rc_run.specs.Words.{asked, texts}
+use Rattle.rc_jobfiles.specs.Ask.{texts}
+use Rattle.rc_run.specs.Words.{asked}
 use Rattle.drill.proofs.Drills.{ends_so, never, start_is, told_same}
 use Rattle.drill.proofs.run.mirror_file.Goals as goal
 

@@ -1,6 +1,6 @@
 use Rattle.std.proofs.Common.{arith}
 use Rattle.drill.proofs.Drills.{lost_more}
-use Rattle.drill.proofs.Sends.{on_err}
+use Rattle.rc_sitetext.proofs.Sends.{on_err}
 use Rattle.drill.proofs.run.read_text.Goals as goal
 
 pub returns-in_err-count-clause-lost : goal.returns-in_err-count-clause-lost

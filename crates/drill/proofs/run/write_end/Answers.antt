@@ -2,10 +2,10 @@ use Rattle.std.proofs.Common.{◌++◌, [], List, ℕ, ap, sym, subst, ◌∙◌
 use Rattle.std.proofs.lemmas.List.{append-nil}
 use Rattle.rc_volume.specs.Streams.{AppendsFront}
 use Rattle.rc_mem.specs.MemSite.{told_by}
-use Rattle.drill.specs.SiteText.{site_text}
+use Rattle.rc_sitetext.specs.SiteText.{site_text}
 use Rattle.drill.specs.Drilling.{status_lines}
-use Rattle.drill.proofs.Appends.{behind}
-use Rattle.drill.proofs.Sends.{on_err, front_in, front_first}
+use Rattle.rc_sitetext.proofs.Appends.{behind}
+use Rattle.rc_sitetext.proofs.Sends.{on_err, front_in, front_first}
 use Rattle.drill.proofs.run.write_end.Goals as goal
 
 pub returns-in_err-write-clause-front : goal.returns-in_err-write-clause-front

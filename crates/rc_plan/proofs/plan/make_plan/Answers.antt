@@ -1,14 +1,33 @@
--- The trees hold what is mirrored so far where what was listed does.
-use Rattle.std.proofs.Common.{◌∙◌}
-use Rattle.rc_plan.proofs.PlanLemmas.{built_so}
+-- The plan has what every plan of its job has, and is refused by the limit of the planned items.
+use Rattle.std.proofs.Common.{⊎_elim, inl, inr, refl, sym, ap, subst, ◌∙◌}
+use Rattle.rc_class.specs.declared.plan.Plan.{Plan}
+use Rattle.rc_plan.specs.Limits.{limit_of}
+use Rattle.rc_plan.specs.Plan.{limit_in, IsMadeFor}
+use Rattle.rc_plan.proofs.Plans.{below_root, limit_so, refuses_so}
 use Rattle.rc_plan.proofs.plan.make_plan.Goals as goal
 
-pub returns-then-not-are_built-clause-not_built : goal.returns-then-not-are_built-clause-not_built
-returns-then-not-are_built-clause-not_built g c = λ tells _.
-    built_so c.args.job.now (g.S.Site.view c.args.site.now).told _ _ _ _ _ (c.in-Ok.ensures.listed tells) c.deref.ensures.value c.deref-in-Ok.ensures.value c.are_built.ensures
-    ∙ c.if-not-are_built.true
+pub returns-in-Ok-check_limits-clause-made : goal.returns-in-Ok-check_limits-clause-made
+returns-in-Ok-check_limits-clause-made g c =
+    let items = c.in-Ok.items.items in
+    subst (λ (plan : Plan). IsMadeFor c.args.job.now c.args.moment plan) (sym c.plan_of.ensures)
+    (record {
+      moment = refl;
+      stride = refl;
+      with_bytes = refl;
+      rising = c.in-Ok.ensures.rising;
+      below = below_root items c.in-Ok.ensures.root;
+      limits = ap (limit_of c.args.job.now.copy.data_bytes) (sym c.deref.ensures.value) ∙ c.in-Ok-check_limits.ensures.within;
+    })
 
-pub returns-in-Ok-plan_of-clause-built : goal.returns-in-Ok-plan_of-clause-built
-returns-in-Ok-plan_of-clause-built g c = λ tells.
-    built_so c.args.job.now (g.S.Site.view c.args.site.now).told _ _ _ _ _ (c.in-Ok.ensures.listed tells) c.deref.ensures.value c.deref-in-Ok.ensures.value c.are_built.ensures
-    ∙ c.if-not-are_built.false
+pub returns-in-Err-clause-refused : goal.returns-in-Err-clause-refused
+returns-in-Err-clause-refused g c = λ tells.
+    let job = c.args.job.now in
+    let told = (g.S.Site.view c.args.site.now).told in
+    let items = c.in-Ok.items.items in
+    refuses_so (limit_in job told c.args.moment) c.in-Err.e
+    (⊎_elim (λ none. inl none)
+    (λ passed.
+    inr (limit_so job told c.args.moment items _ (c.plans_have_the_planned_items.ensures job told.source told.target)
+    c.in-Ok.ensures.rising (c.in-Ok.ensures.decided tells)
+    (ap (limit_of job.copy.data_bytes) (sym c.deref.ensures.value) ∙ passed)))
+    c.in-Err.ensures.beyond)

@@ -1,7 +1,7 @@
-use Rattle.std.proofs.Common.{[], codes, refl}
+use Rattle.std.proofs.Common.{[], codes, refl, arith}
 use Rattle.std.specs.Str.{chars}
-use Rattle.rc_run.specs.declared.outcome.Outcome.TheVariants.{Done, NotYet, RootFault, ListFault, RecordFault, SiteFault, SinkFault, NoMemory}
-use Rattle.rc_run.proofs.OutcomeLemmas.{chars_made, not_yet_chars, root_chars, list_chars, site_chars}
+use Rattle.rc_run.specs.declared.outcome.Outcome.TheVariants.{Done, NotYet, RootFault, ListFault, TooMany, RecordFault, SiteFault, SinkFault, NoMemory}
+use Rattle.rc_run.proofs.OutcomeLemmas.{chars_made, not_yet_chars, root_chars, list_chars, site_chars, too_many_chars}
 use Rattle.rc_run.proofs.outcome.line_of.Goals as goal
 
 pub returns-in-Done : goal.returns-in-Done
@@ -16,6 +16,9 @@ returns-in-RootFault c = chars_made c.fault_line.result _ c.args.outcome.now (Ro
 
 pub returns-in-ListFault : goal.returns-in-ListFault
 returns-in-ListFault c = chars_made c.fault_line-in-ListFault.result _ c.args.outcome.now (ListFault c.in-ListFault.side) c.in-ListFault.is (list_chars c.in-ListFault.side) c.fault_line-in-ListFault.ensures
+
+pub returns-in-TooMany : goal.returns-in-TooMany
+returns-in-TooMany c = chars_made c.too_many_line.result _ c.args.outcome.now (TooMany c.in-TooMany.side c.in-TooMany.count) c.in-TooMany.is (too_many_chars c.in-TooMany.side c.in-TooMany.count (omega arith)) c.too_many_line.ensures
 
 pub returns-in-RecordFault : goal.returns-in-RecordFault
 unfolding chars

@@ -1,8 +1,0 @@
-use Rattle.drill.proofs.SiteLaws.{is_found, is_only}
-use Rattle.drill.proofs.reader.read_site.Goals as goal
-
-pub returns-clause-found : goal.returns-clause-found
-returns-clause-found c = is_found c.args.text.now c.read_text.result c.read_text.ensures
-
-pub returns-clause-only : goal.returns-clause-only
-returns-clause-only c = is_only c.args.text.now c.read_text.result c.read_text.ensures

@@ -1,0 +1,14 @@
+use Rattle.std.proofs.Common.{rules}
+use Rattle.rc_volume.specs.declared.site.Part.TheVariants.{Target}
+use Rattle.rc_volume.proofs.ImageLemmas.{logs_behind}
+use Rattle.rc_copy.proofs.filling.copy_piece.Goals as goal
+
+pub returns-in-Ok-clause-frame : goal.returns-in-Ok-clause-frame
+returns-in-Ok-clause-frame g c = record {
+  here = search rules;
+  elsewhere = search rules;
+  log = λ tells. logs_behind Target _ _ _ (c.read_piece.ensures.frame.log tells) (c.put_piece.ensures.frame.log tells);
+  opened = search rules;
+  bound = search rules;
+  counts = search rules;
+}

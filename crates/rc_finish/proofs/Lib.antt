@@ -1,0 +1,7 @@
+pub mod GiveLemmas
+pub mod ItemKeys
+pub mod MakeLemmas
+pub mod PassLemmas
+pub mod PlanLemmas
+pub mod Retries
+pub mod StopLemmas

@@ -1,0 +1,27 @@
+use Rattle.std.proofs.Common.{◌≡◌, List, sym, ap, subst, ◌∙◌, rules, tests}
+use Rattle.std.specs.List.{list_any}
+use Rattle.std.proofs.lemmas.Iterator.Search.{any_from_yields_List}
+use Rattle.std.proofs.lemmas.Iterator.{YieldsList-from_slice}
+use Rattle.rc_class.specs.declared.item.Item.{Item}
+use Rattle.rc_finish.specs.Calls.{LogsCalls, Makes}
+use Rattle.rc_finish.specs.Passes.{has_any, is_make, AreFit}
+use Rattle.rc_finish.proofs.PassLemmas.{pass_synced, side_synced}
+use Rattle.rc_finish.proofs.directories.make_dirs.Goals as goal
+
+pub make_each-requires-clause-fit : goal.make_each-requires-clause-fit
+make_each-requires-clause-fit g c κs within tells =
+    subst (λ (items : List Item). AreFit items (g.S.Site.view c.args.site.now).told) (sym c.items-items.ensures) (c.requires.fit tells)
+
+pub returns-in-Ok-clause-frame : goal.returns-in-Ok-clause-frame
+returns-in-Ok-clause-frame g c = side_synced _ _ _ _ _ _ c.in-Ok.ensures.frame c.sync.ensures.frame
+
+pub returns-in-Ok-clause-durable : goal.returns-in-Ok-clause-durable
+returns-in-Ok-clause-durable g c = λ tells.
+    let items = c.args.plan.now.items in
+    let any : c.any.result ≡ list_any (λ item. is_make item.act) c.items-items.result.now =
+    any_from_yields_List (λ item. is_make item.act) _ _ c.any.result c.any.ensures.ran (YieldsList-from_slice c.items-items.result.now c.iter.ensures.rest) (λ x b q k. search (rules, tests)) in
+    let asked : c.any.result ≡ has_any is_make items = any ∙ ap (λ (all : List Item). list_any (λ item. is_make item.act) all) c.items-items.ensures in
+    let start = (g.S.Site.view c.args.site.now).log in
+    let mid = (g.S.Site.view c.make_each.new.site).log in
+    let called = subst (λ (all : List Item). LogsCalls Makes all start mid) c.items-items.ensures (c.make_each.ensures.calls tells) in
+    pass_synced c.sync.result c.any.result (has_any is_make items) Makes items (g.S.Site.view c.make_each.new.site).told (g.S.Site.view c.sync.new.site).told start mid (g.S.Site.view c.sync.new.site).log asked (c.sync.ensures.frame.told tells) called (c.sync.ensures.log tells) (c.sync.ensures.tree tells)

@@ -1,0 +1,18 @@
+use Rattle.std.proofs.Common.{◌≡◌, true, take}
+use Rattle.rc_volume.specs.declared.site.Side.TheVariants.{Target}
+use Rattle.rc_volume.specs.Faults.{free}
+use Rattle.rc_volume.specs.Frames.{ChangesSide}
+use Rattle.rc_finish.specs.Calls.{LogsCalls, Makes}
+use Rattle.rc_finish.specs.Passes.{made, HasPassed}
+use Rattle.rc_finish.proofs.directories.make_each.Given as goal
+
+abbrev pub invariant-loop-item : goal.invariant-loop-item
+invariant-loop-item g l = record {
+  frame : ChangesSide g.S.Site.tells Target free (g.S.Site.view l.fn.site) (g.S.Site.view l.site);
+  made : g.S.Site.tells ≡ true → HasPassed made (take l.item-index l.items) (g.S.Site.view l.fn.site).told (g.S.Site.view l.site).told.target;
+  calls : g.S.Site.tells ≡ true → LogsCalls Makes l.items (g.S.Site.view l.fn.site).log (g.S.Site.view l.site).log;
+  always : g.C.Clock.tells ≡ true → g.C.Clock.always l.clock ≡ g.C.Clock.always l.fn.clock;
+  last : g.C.Clock.last l.clock ≡ g.C.Clock.last l.fn.clock;
+  unread : g.C.Clock.reads l.clock ≡ g.C.Clock.reads l.fn.clock;
+  no_pause : l.tries.retries ≡ 0 → g.C.Clock.pauses l.clock ≡ g.C.Clock.pauses l.fn.clock;
+}

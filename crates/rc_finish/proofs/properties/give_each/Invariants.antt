@@ -1,0 +1,22 @@
+use Rattle.std.proofs.Common.{◌≡◌, ◌≤◌, true, drop, length}
+use Rattle.rc_volume.specs.declared.site.Side.TheVariants.{Target}
+use Rattle.rc_volume.specs.Faults.{free}
+use Rattle.rc_volume.specs.Frames.{ChangesSide}
+use Rattle.rc_finish.specs.Calls.{Gives, LogsCalls}
+use Rattle.rc_finish.specs.Passes.{given, HasPassed}
+use Rattle.rc_finish.proofs.properties.give_each.Given as goal
+
+abbrev pub invariant-loop-left : goal.invariant-loop-left
+invariant-loop-left g l = record {
+  within : l.left ≤ length l.items;
+  frame : ChangesSide g.S.Site.tells Target free (g.S.Site.view l.fn.site) (g.S.Site.view l.site);
+  has_passed : g.S.Site.tells ≡ true → HasPassed (given l.giving.rules l.giving.moment) (drop l.left l.items) (g.S.Site.view l.fn.site).told (g.S.Site.view l.site).told.target;
+  calls : g.S.Site.tells ≡ true → LogsCalls (Gives (given l.giving.rules l.giving.moment) (g.S.Site.view l.fn.site).told) l.items (g.S.Site.view l.fn.site).log (g.S.Site.view l.site).log;
+  always : g.C.Clock.tells ≡ true → g.C.Clock.always l.clock ≡ g.C.Clock.always l.fn.clock;
+  last : g.C.Clock.last l.clock ≡ g.C.Clock.last l.fn.clock;
+  unread : g.C.Clock.reads l.clock ≡ g.C.Clock.reads l.fn.clock;
+  no_pause : l.giving.tries.retries ≡ 0 → g.C.Clock.pauses l.clock ≡ g.C.Clock.pauses l.fn.clock;
+}
+
+abbrev pub decreases-loop-left : goal.decreases-loop-left
+decreases-loop-left g l = l.left

@@ -1,0 +1,4 @@
+pub mod Ask
+pub mod Merge
+pub mod Refusal
+pub mod Roots

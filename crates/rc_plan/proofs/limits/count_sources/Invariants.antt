@@ -1,0 +1,7 @@
+use Rattle.std.proofs.Common.{◌≡◌, take}
+use Rattle.std.specs.List.{count_by}
+use Rattle.rc_plan.specs.Limits.{has_source}
+use Rattle.rc_plan.proofs.limits.count_sources.Given as goal
+
+abbrev pub invariant-loop-item : goal.invariant-loop-item
+invariant-loop-item l = l.count ≡ count_by has_source (take l.item-index l.items)

@@ -1,0 +1,98 @@
+//! The items of all keys that a job decides on the two sides of a site.
+
+ghost use Rattle.std.specs.Prelude.{◌≡◌, [], true, None, IfOk, OnOk};
+ghost use Rattle.rc_tree.specs.Tree.{IsTree, Tree};
+ghost use Rattle.rc_class.specs.Items.{are_rising, item_at};
+ghost use Rattle.rc_volume.specs.Frames.{Looks};
+ghost use Rattle.rc_plan.specs.Deciding.{AreDecided};
+ghost use Rattle.rc_plan.specs.Faults.{list_cause};
+ghost use Rattle.rc_plan.specs.Found.{AreAllOf, are_rising as are_found_rising, found_at};
+ghost use Rattle.rc_plan.specs.Plan.{AreTrees};
+
+use crate::decided::decide_pairs;
+use crate::entries::{Found, ListErr, read_side};
+use crate::made::make_needed;
+use crate::pairs::pair_sides;
+use rc_class::Item;
+use rc_filter::decisions_by_neighbours;
+use rc_job::Job;
+use rc_tree::{Moment, NoMemory};
+use rc_volume::{Side, Site};
+use std::alloc::Global;
+
+/// The items of all keys that a job decides on the two sides of a site, in the order of keys.
+pub(crate) fn decide_site<S: Site>(
+    alloc: Global,
+    job: &Job,
+    moment: Moment,
+    site: &mut S,
+) -> Result<Vec<Item>, ListErr>
+    ensures decided { S.tells ≡ true → IfOk result (λ items.
+        AreDecided job.now (S.view site.old).told.source (S.view site.old).told.target moment items.items) }
+    ensures trees { S.tells ≡ true → OnOk result (AreTrees (S.view site.old).told) }
+    // On every site, told or not.
+    ensures rising { IfOk result (λ items. are_rising items.items ≡ true) }
+    ensures root { IfOk result (λ items. item_at items.items [] ≡ None) }
+    ensures frame { Looks S.tells (list_cause result) (S.view site.old) (S.view site.new) }
+{
+    match read_sides(alloc, site) {
+        Ok((source, target)) => match decide_sides(alloc, job, moment, source, target) {
+            Ok(items) => Ok(items),
+            Err(_) => Err(ListErr::NoMemory),
+        },
+        Err(e) => Err(e),
+    }
+}
+
+// All entries of both sides, each in the order of keys.
+fn read_sides<S: Site>(alloc: Global, site: &mut S) -> Result<(Vec<Found>, Vec<Found>), ListErr>
+    ensures source { S.tells ≡ true →
+        IfOk result (λ sides. AreAllOf (S.view site.old).told.source sides.0.items) }
+    ensures target { S.tells ≡ true →
+        IfOk result (λ sides. AreAllOf (S.view site.old).told.target sides.1.items) }
+    ensures trees { S.tells ≡ true → OnOk result (AreTrees (S.view site.old).told) }
+    ensures ours { IfOk result (λ sides. are_found_rising sides.0.items ≡ true) }
+    ensures theirs { IfOk result (λ sides. are_found_rising sides.1.items ≡ true) }
+    ensures our_root { IfOk result (λ sides. found_at sides.0.items [] ≡ None) }
+    ensures their_root { IfOk result (λ sides. found_at sides.1.items [] ≡ None) }
+    ensures frame { Looks S.tells (list_cause result) (S.view site.old) (S.view site.new) }
+{
+    match read_side(alloc, site, Side::Source) {
+        Ok(source) => match read_side(alloc, site, Side::Target) {
+            Ok(target) => Ok((source, target)),
+            Err(e) => Err(e),
+        },
+        Err(e) => Err(e),
+    }
+}
+
+// The items of all keys that a job decides, where the two sides have these entries.
+fn decide_sides(
+    alloc: Global,
+    job: &Job,
+    moment: Moment,
+    source: Vec<Found>,
+    target: Vec<Found>,
+) -> Result<Vec<Item>, NoMemory>
+    requires ours { are_found_rising source.items ≡ true }
+    requires theirs { are_found_rising target.items ≡ true }
+    requires our_root { found_at source.items [] ≡ None }
+    requires their_root { found_at target.items [] ≡ None }
+    ensures rising { IfOk result (λ items. are_rising items.items ≡ true) }
+    ensures root { IfOk result (λ items. item_at items.items [] ≡ None) }
+    ensures decided { (ours theirs : Tree) → IsTree ours → IsTree theirs →
+        AreAllOf ours source.items → AreAllOf theirs target.items →
+        IfOk result (λ items. AreDecided job.now ours theirs moment items.items) }
+{
+    decisions_by_neighbours();
+    match pair_sides(alloc, source, target) {
+        Ok(pairs) => match decide_pairs(alloc, job, moment, pairs) {
+            Ok(items) => match make_needed(alloc, items) {
+                Ok(made) => Ok(made),
+                Err(e) => Err(e),
+            },
+            Err(e) => Err(e),
+        },
+        Err(e) => Err(e),
+    }
+}

@@ -1,6 +1,0 @@
-use Rattle.std.proofs.Common.{◌≡◌, take}
-use Rattle.rc_run.specs.Reading.{whole_files}
-use Rattle.rc_run.proofs.copying.wants_for.Given as goal
-
-abbrev pub invariant-loop-item : goal.invariant-loop-item
-invariant-loop-item l = l.wants.items ≡ whole_files l.with_bytes (take l.item-index l.items)

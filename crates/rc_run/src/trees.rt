@@ -1,0 +1,87 @@
+//! The trees of a run are changed: directories are made, then files copied, then properties given.
+
+ghost use Rattle.std.specs.Prelude.{◌≡◌, true, IfErr, OnOk};
+ghost use Rattle.rc_class.specs.Start.{IsPlanOf};
+ghost use Rattle.rc_copy.specs.Copying.{AddsWants, CopiesFiles};
+ghost use Rattle.rc_copy.specs.Reading.{wants_of};
+ghost use Rattle.rc_plan.specs.Plan.{start_in, AreTrees, IsMadeFor};
+ghost use Rattle.rc_run.specs.Answers.{copying_of, uncopied, unfinished};
+ghost use Rattle.rc_run.specs.Outcome.{at_copies, ending, run_cause, EndsAt};
+ghost use Rattle.rc_run.specs.Under.{AreUnderWay, HaveGoals, IsLasting};
+
+use crate::Outcome;
+use rc_class::Plan;
+use rc_copy::{CopyErr, Copying, copy_files, files_follow_their_directories};
+use rc_filter::{decided_items, rules};
+use rc_finish::{FinishErr, a_pass_is_durable, a_plan_fits, make_dirs, props_pass};
+use rc_job::Job;
+use rc_volume::{Clock, Site};
+use std::alloc::Global;
+
+/// Does what the plan of a job says: each directory is made before what stands in it, files are copied, and then
+/// properties are given from the last key to the first.
+pub(crate) fn change_trees<S: Site, C: Clock>(
+    alloc: Global,
+    site: &mut S,
+    job: &Job,
+    plan: &Plan,
+    clock: &mut C,
+) -> Result<(), Outcome>
+    requires plan { S.tells ≡ true → IsPlanOf (start_in job.now (S.view site.old).told) plan.now }
+    requires trees { S.tells ≡ true → AreTrees (S.view site.old).told }
+    requires made { IsMadeFor job.now plan.now.moment plan.now }
+
+    ensures frame { CopiesFiles S.tells (run_cause result) (S.view site.old) (S.view site.new) }
+    ensures ends { IfErr result (λ e. EndsAt at_copies at_copies ⊥ (ending e)) }
+    ensures goals { S.tells ≡ true → OnOk result
+        (HaveGoals (copying_of job.now plan.now.moment) plan.now.items
+        (S.view site.old).told (S.view site.new).told.target) }
+    ensures under_way { S.tells ≡ true →
+        AreUnderWay (copying_of job.now plan.now.moment) plan.now.items
+        (S.view site.old).told (S.view site.new).told.target }
+    ensures lasting { S.tells ≡ true → OnOk result (IsLasting plan.now.items (S.view site.new)) }
+    ensures opened { AddsWants result (wants_of 0 job.now.copy.data_bytes plan.now.items)
+        (S.view site.old).opened (S.view site.new).opened }
+    ensures clock { C.tells ≡ true → C.always clock.new ≡ C.always clock.old }
+    ensures last { C.last clock.new ≡ C.last clock.old }
+    ensures unread { C.reads clock.new ≡ C.reads clock.old }
+    ensures no_pause { C.pauses clock.new ≡ C.pauses clock.old }
+{
+    decided_items();
+    a_plan_fits();
+    files_follow_their_directories();
+    a_pass_is_durable();
+    let copying = Copying {
+        rules: rules(job),
+        with_bytes: plan.with_bytes,
+        moment: plan.moment,
+    };
+    match make_dirs(alloc, site, plan, 0, 0, clock) {
+        Ok(()) => match copy_files(alloc, site, &copying, plan.items.items()) {
+            Ok(()) => match props_pass(alloc, site, plan, rules(job), 0, 0, clock) {
+                Ok(()) => Ok(()),
+                Err(e) => Err(unfinished(e)),
+            },
+            Err(e) => Err(uncopied(e)),
+        },
+        Err(e) => Err(unfinished(e)),
+    }
+}
+
+fn unfinished(e: FinishErr) -> Outcome
+    ensures { result ≡ unfinished e }
+{
+    match e {
+        FinishErr::SiteFault { side } => Outcome::SiteFault { side },
+        FinishErr::NoMemory => Outcome::NoMemory,
+    }
+}
+
+fn uncopied(e: CopyErr) -> Outcome
+    ensures { result ≡ uncopied e }
+{
+    match e {
+        CopyErr::Failed { side } => Outcome::SiteFault { side },
+        CopyErr::NoMemory => Outcome::NoMemory,
+    }
+}

@@ -1,0 +1,17 @@
+pub mod Appends
+pub mod ByteSpells
+pub mod Cuts
+pub mod FieldValues
+pub mod LineLaws
+pub mod HexLaws
+pub mod LineSteps
+pub mod LineTexts
+pub mod PathTexts
+pub mod Plain
+pub mod Printable
+pub mod Rising
+pub mod Sends
+pub mod SiteLaws
+pub mod Spells
+pub mod TreeLaws
+pub mod Ways
