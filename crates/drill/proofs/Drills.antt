@@ -20,6 +20,7 @@ use Rattle.rc_run.specs.Outcome.{IfDone, at_copies, at_end, at_report, ending, f
 use Rattle.rc_report.specs.Report.{bits_of, totals_of}
 use Rattle.rc_run.specs.Words.{asked}
 use Rattle.rc_class.specs.declared.item.Item.{Item}
+use Rattle.rc_filter.specs.Acts.{copies_bytes}
 use Rattle.rc_filter.specs.Decided.{planned_items}
 use Rattle.rc_plan.specs.declared.plan.PlanErr.{PlanErr}
 use Rattle.rc_plan.specs.declared.plan.PlanErr.TheVariants as plan_err
@@ -210,7 +211,7 @@ refused_early job told moment refusal e = by (is_empty told.notes) (limit_in job
 
     by : (b : Bool) (passed : Option PlanErr) → limit_in job told moment ≡ passed → (if b then option_map unplanned passed else Some (out.NotYet unbuilt.Record)) ≡ Some refusal → last_step (ending refusal) < at_copies
     by true None is h = cc
-    by true (Some e) is h = subst (λ (o : Outcome). last_step (ending o) < at_copies) (same (unplanned e) refusal h) (limit_early job.copy.data_bytes (planned_items job told.source told.target moment) e is)
+    by true (Some e) is h = subst (λ (o : Outcome). last_step (ending o) < at_copies) (same (unplanned e) refusal h) (limit_early (copies_bytes job) (planned_items job told.source told.target moment) e is)
     by false passed is h = subst (λ (o : Outcome). last_step (ending o) < at_copies) (same (out.NotYet unbuilt.Record) refusal h) (omega arith)
 
 -- what a run over a site in memory says, of which nothing fails

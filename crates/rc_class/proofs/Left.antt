@@ -3,7 +3,7 @@ use Rattle.std.proofs.Common.{◌≡◌, ℕ, Bool, true, Option, Some, None, re
 use Rattle.std.proofs.lemmas.Bool.{true≢false}
 use Rattle.rc_tree.specs.Tree.{Node}
 use Rattle.rc_class.specs.declared.decision.Act.{Act}
-use Rattle.rc_class.specs.declared.decision.Act.TheVariants.{Copy, Make, Touch, Fix, Purge, Extra, Mismatch, Keep}
+use Rattle.rc_class.specs.declared.decision.Act.TheVariants.{Purge, Extra, Mismatch, Keep}
 use Rattle.rc_class.specs.declared.item.Item.{Item}
 use Rattle.rc_class.specs.declared.rules.Rules.{Rules}
 use Rattle.rc_class.specs.Goal.{goal_of_act, goal_of_extra, is_left, target_goal}

@@ -1,6 +1,6 @@
 //! The copies of a plan's files, one after another.
 
-ghost use Rattle.std.specs.Prelude.{◌≡◌, ◌<◌, ◌≤◌, ◌^◌, true, false, IfOk, OnOk, length, vec_len};
+ghost use Rattle.std.specs.Prelude.{◌≡◌, ◌<◌, ◌≤◌, ◌^◌, true, false, IfOk, OnErr, OnOk, length, vec_len};
 ghost use Rattle.std.specs.FinMap.{get};
 ghost use Rattle.rc_tree.specs.Path.{key_of};
 ghost use Rattle.rc_class.specs.Items.{are_rising};
@@ -58,6 +58,7 @@ pub fn copy_files<S: Site>(
     ensures durable { S.tells ≡ true → OnOk result (IsDurable items.now (S.view site.new)) }
     ensures idle { copies_any items.now ≡ false → S.tells ≡ true →
         Rests (S.view site.old) (S.view site.new) }
+    ensures none { copies_any items.now ≡ false → OnErr result ⊥ }
     ensures opened { AddsWants result (wants_of 0 copying.now.with_bytes items.now)
         (S.view site.old).opened (S.view site.new).opened }
 {

@@ -1,18 +1,16 @@
 -- That what both sides have at the key of an item is what its act needs.
-use Rattle.std.proofs.Common.{◌≡◌, Bool, true, false, not, ◌&&◌, ◌||◌, Option, Some, None, refl, sym, ap, subst, ◌∙◌}
+use Rattle.std.proofs.Common.{◌≡◌, Bool, true, false, not, ◌&&◌, Option, Some, None, sym, ap, subst}
 use Rattle.std.proofs.lemmas.Bool.{true≢false}
-use Rattle.std.specs.Prelude.{IfSome, IsSomeAnd}
+use Rattle.std.specs.Prelude.{IfSome}
 use Rattle.rc_tree.specs.declared.attr.Kind.{Kind}
-use Rattle.rc_tree.specs.declared.attr.Kind.TheVariants.{File, Dir}
 use Rattle.rc_tree.specs.Codes.{is_dir}
 use Rattle.rc_tree.specs.Tree.{Node}
 use Rattle.rc_class.specs.declared.class.Class.{Class}
-use Rattle.rc_class.specs.declared.class.Class.TheVariants.{Lonely, Extra, Newer, Older, Changed, Tweaked, Same, Mismatched}
+use Rattle.rc_class.specs.declared.class.Class.TheVariants.{Lonely, Extra, Mismatched}
 use Rattle.rc_class.specs.declared.decision.Act.{Act}
 use Rattle.rc_class.specs.declared.decision.Act.TheVariants as act
 use Rattle.rc_class.specs.declared.facts.Facts.{Facts}
 use Rattle.rc_class.specs.declared.item.Item.{Item}
-use Rattle.rc_class.specs.Class.{facts_of, is_extra, is_lonely, is_mismatched}
 use Rattle.rc_class.specs.Sides.{Beside, HasKind, IsEntryOf, IsReady, is_put, may_act}
 
 no : (k : Bool) → k && false ≡ true → ⊥

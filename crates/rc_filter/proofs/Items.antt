@@ -8,17 +8,17 @@ use Rattle.rc_class.specs.declared.class.Class.{Class}
 use Rattle.rc_class.specs.declared.class.Class.TheVariants as class
 use Rattle.rc_class.specs.declared.decision.Act.{Act}
 use Rattle.rc_class.specs.declared.decision.Act.TheVariants as act
-use Rattle.rc_class.specs.declared.decision.Reason.{Reason}
 use Rattle.rc_class.specs.declared.decision.Reason.TheVariants as reason
 use Rattle.rc_class.specs.declared.facts.Facts.{Facts}
 use Rattle.rc_class.specs.declared.facts.Grain.{Grain}
 use Rattle.rc_class.specs.declared.item.Item.{Item}
-use Rattle.rc_class.specs.Class.{class_of_files, class_of_kinds, facts_of, is_extra, is_mismatched, is_same_attr, is_same_time}
+use Rattle.rc_class.specs.Class.{class_of_files, class_of_kinds, facts_of, is_same_attr, is_same_time}
 use Rattle.rc_class.specs.Sides.{Beside, HasKind, IsEntryOf, may_act, other_kind}
 use Rattle.rc_job.specs.declared.job.Job.{Job}
-use Rattle.rc_filter.specs.Acts.{class_act, differ, extra_act, grain_of, is_all, kept_for, lonely_act, standing_act, unless}
+use Rattle.rc_filter.specs.Acts.{class_act, differ, extra_act, grain_of, is_all, is_mended, kept_for, lonely_act, standing_act}
 use Rattle.rc_filter.specs.Decided.{act_for, extra_item, source_act, source_item}
 use Rattle.rc_filter.specs.Matching.{is_excluded_directory, is_excluded_file, is_named}
+use Rattle.rc_filter.proofs.FileActs.{both_sides_fit, of_class_act, one_side_fits}
 
 pub some_none : {A : Type 0} (x : A) → None ≡ Some x → ⊥
 some_none x e = cc
@@ -39,11 +39,6 @@ files_class P newer older changed tweaked same false false sized alike = older
 files_class P newer older changed tweaked same true later false alike = changed
 files_class P newer older changed tweaked same true later true false = tweaked
 files_class P newer older changed tweaked same true later true true = same
-
--- a file that is copied or kept
-unless_fits : (c : Class) → not (is_extra c || is_mismatched c) ≡ true → not (is_mismatched c) ≡ true → (r : Option Reason) → may_act c File (unless r act.Copy) ≡ true
-unless_fits c copied kept None = copied
-unless_fits c copied kept (Some why) = kept
 
 lonely_fits : (excluded left made : Bool) → may_act class.Lonely Dir (cond excluded (act.Keep reason.Excluded) (cond left (act.Keep reason.Class) (cond made act.Make (act.Keep reason.Empty)))) ≡ true
 lonely_fits true left made = refl
@@ -70,7 +65,7 @@ extra_directory_fits false false = refl
 -- The side that has an entry alone
 
 alone_fits : (job : Job) (moment : ℕ) (key : List (List ℕ)) (facts : Facts) (some_below : Bool) (k : Kind) → may_act class.Lonely k (act_for k (class_act job moment key facts class.Lonely) (lonely_act job key some_below)) ≡ true
-alone_fits job moment key facts some_below File = unless_fits class.Lonely refl refl (kept_for job moment key facts class.Lonely)
+alone_fits job moment key facts some_below File = one_side_fits class.Lonely refl refl (kept_for job moment key facts class.Lonely)
 alone_fits job moment key facts some_below Dir = lonely_fits (is_excluded_directory job key) job.xl (is_all job.sub || some_below)
 
 pub extra_acts_fit : (job : Job) (key : List (List ℕ)) (k : Kind) → may_act class.Extra k (extra_act job key k) ≡ true
@@ -82,11 +77,11 @@ extra_acts_fit job key Dir = extra_directory_fits job.xx (is_excluded_directory 
 files_fit : (job : Job) (moment : ℕ) (key : List (List ℕ)) (source target : Facts) → may_act (class_of_files (grain_of job) source target) File (class_act job moment key source (class_of_files (grain_of job) source target)) ≡ true
 files_fit job moment key source target =
     files_class (λ c. may_act c File (class_act job moment key source c) ≡ true)
-    (unless_fits class.Newer refl refl (kept_for job moment key source class.Newer))
-    (unless_fits class.Older refl refl (kept_for job moment key source class.Older))
-    (unless_fits class.Changed refl refl (kept_for job moment key source class.Changed))
-    (unless_fits class.Tweaked refl refl (kept_for job moment key source class.Tweaked))
-    (unless_fits class.Same refl refl (kept_for job moment key source class.Same))
+    (both_sides_fit class.Newer refl refl refl (is_mended job class.Newer) (kept_for job moment key source class.Newer))
+    (both_sides_fit class.Older refl refl refl (is_mended job class.Older) (kept_for job moment key source class.Older))
+    (both_sides_fit class.Changed refl refl refl (is_mended job class.Changed) (kept_for job moment key source class.Changed))
+    (both_sides_fit class.Tweaked refl refl refl (is_mended job class.Tweaked) (kept_for job moment key source class.Tweaked))
+    (both_sides_fit class.Same refl refl refl (is_mended job class.Same) (kept_for job moment key source class.Same))
     (is_same_time (grain_of job) source.written target.written) _ _ (is_same_attr source.attr target.attr)
 
 both_fit : (job : Job) (moment : ℕ) (key : List (List ℕ)) (node there : Node) (k l : Kind) →
@@ -126,16 +121,8 @@ extra_beside job key path node named = (refl, record { node = node; stands = ref
 
 -- Nothing is removed so far
 
-unless_keeps : (r : Option Reason) → unless r act.Copy ≡ act.Purge → ⊥
-unless_keeps None e = cc
-unless_keeps (Some why) e = cc
-
 class_keeps : (job : Job) (moment : ℕ) (key : List (List ℕ)) (facts : Facts) (c : Class) → class_act job moment key facts c ≡ act.Purge → ⊥
-class_keeps job moment key facts c e =
-    elim (is_mismatched c) as (λ b. cond b act.Mismatch (unless (kept_for job moment key facts c) act.Copy) ≡ act.Purge → ⊥) [
-      | true ↦ λ h. cc
-      | false ↦ λ h. unless_keeps (kept_for job moment key facts c) h
-    ] e
+class_keeps = of_class_act (λ does. does ≡ act.Purge → ⊥) (λ e. cc) (λ e. cc) (λ e. cc) (λ why _ e. cc)
 
 lonely_keeps : (excluded left made : Bool) → cond excluded (act.Keep reason.Excluded) (cond left (act.Keep reason.Class) (cond made act.Make (act.Keep reason.Empty))) ≡ act.Purge → ⊥
 lonely_keeps true left made e = cc

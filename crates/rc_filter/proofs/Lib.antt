@@ -1,3 +1,4 @@
+pub mod FileActs
 mod Fitting
 mod Items
 mod LastNames

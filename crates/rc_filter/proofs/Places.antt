@@ -1,5 +1,5 @@
 -- That what is copied, made or changed has its directory; and all that a decided item says of both trees.
-use Rattle.std.proofs.Common.{◌≡◌, ◌≢◌, ℕ, Bool, true, false, cond, not, ◌&&◌, ◌||◌, List, [], ◌∷◌, ◌++◌, Option, Some, None, inl, inr, refl, sym, ap, subst, ◌∙◌, append_assoc}
+use Rattle.std.proofs.Common.{◌≡◌, ◌≢◌, ℕ, Bool, true, false, cond, not, ◌&&◌, ◌||◌, List, [], ◌∷◌, ◌++◌, Option, Some, None, length, inl, inr, refl, sym, ap, subst, ◌∙◌, append_assoc}
 use Rattle.std.proofs.lemmas.Bool.{true≢false}
 use Rattle.std.specs.Prelude.{option_map}
 use Rattle.std.specs.Option.{option_map_or}
@@ -19,8 +19,9 @@ use Rattle.rc_class.specs.Class.{facts_of}
 use Rattle.rc_class.specs.Sides.{Acts, Beside, HasKind, IsDecidedIn, IsPlace, is_put, may_act}
 use Rattle.rc_class.specs.Units.{is_copy}
 use Rattle.rc_job.specs.declared.job.Job.{Job}
-use Rattle.rc_filter.specs.Acts.{class_act, extra_act, is_all, lonely_act, unless}
+use Rattle.rc_filter.specs.Acts.{class_act, extra_act, is_all, lonely_act, mended, unless}
 use Rattle.rc_filter.specs.Decided.{act_for, copies, copies_kind, decided_at, extra_item, is_copied, item_of, some_copied, source_act, source_item, start_of}
+use Rattle.rc_filter.specs.Filters.{is_wrong_age, is_wrong_attr, is_wrong_size}
 use Rattle.rc_filter.specs.Matching.{is_excluded_directory, is_excluded_file, is_named}
 use Rattle.rc_filter.specs.Scope.{are_directories, decides, enters, is_above_in_scope, is_decided, is_directory, is_file, is_in_scope, reaches}
 use Rattle.rc_filter.proofs.Items.{extra_acts_fit, extra_beside, extra_keeps, same_some, some_none, acts_fit, source_beside, source_keeps, taken}
@@ -87,11 +88,14 @@ record Lonely (job : Job) (some_below : Bool) : Type 0 where
   made : (is_all job.sub || some_below) ≡ true
 
 -- a file that is put is copied
-class_kept : (named excluded left : Bool) → is_put (unless (cond (not named) (Some reason.NotNamed) (cond excluded (Some reason.Excluded) (cond left (Some reason.Class) None))) act.Copy) ≡ true → (is_copy (unless (cond (not named) (Some reason.NotNamed) (cond excluded (Some reason.Excluded) (cond left (Some reason.Class) None))) act.Copy) ≡ true) × (left ≡ false)
-class_kept false excluded left e = absurd (true≢false (sym e))
-class_kept true true left e = absurd (true≢false (sym e))
-class_kept true false true e = absurd (true≢false (sym e))
-class_kept true false false e = (refl, refl)
+class_kept : (named excluded attr size age left : Bool) → (let does = mended false (unless (cond (not named) (Some reason.NotNamed) (cond excluded (Some reason.Excluded) (cond attr (Some reason.Attr) (cond size (Some reason.Size) (cond age (Some reason.Age) (cond left (Some reason.Class) None)))))) act.Copy) in is_put does ≡ true → (is_copy does ≡ true) × (left ≡ false))
+class_kept false excluded attr size age left e = absurd (true≢false (sym e))
+class_kept true true attr size age left e = absurd (true≢false (sym e))
+class_kept true false true size age left e = absurd (true≢false (sym e))
+class_kept true false false true age left e = absurd (true≢false (sym e))
+class_kept true false false false true left e = absurd (true≢false (sym e))
+class_kept true false false false false true e = absurd (true≢false (sym e))
+class_kept true false false false false false e = (refl, refl)
 
 -- a directory that is put is made
 lonely_kept : (excluded left made : Bool) → is_put (cond excluded (act.Keep reason.Excluded) (cond left (act.Keep reason.Class) (cond made act.Make (act.Keep reason.Empty)))) ≡ true → (left ≡ false) × (made ≡ true)
@@ -112,7 +116,7 @@ module _ (job : Job) (source target : Tree) (moment : ℕ) where
   -- what is put at a key where the target has nothing, by its kind
   lonely_by : (key : Key) (node : Node) (above : Key) (last : List ℕ) → key ≡ above ++ last ∷ [] → get source key ≡ Some node → get target key ≡ None → is_decided job source target key ≡ true → (k : Kind) → node.kind ≡ k → is_put (act_for k (class_act job moment key (facts_of node) class.Lonely) (lonely_act job key (some_copied job source target moment key))) ≡ true → Lonely job (some_copied job source target moment above)
   lonely_by key node above last same here nothing decided File is put =
-      let kept = class_kept (is_named job key) (is_excluded_file job key) job.xl put in
+      let kept = class_kept (is_named job key) (is_excluded_file job key) (is_wrong_attr job node.props.attr) (is_wrong_size job (length node.bytes)) (is_wrong_age job moment node.props.written) job.xl put in
       let so : copies_kind File (class_act job moment key (facts_of node) class.Lonely) ≡ true = kept.0 in
       let at : copies job moment key (Some node) None ≡ true = ap (λ k. copies_kind k (class_act job moment key (facts_of node) class.Lonely)) is ∙ so in
       let both : copies job moment key (get source key) (get target key) ≡ true = ap (λ o. copies job moment key o (get target key)) here ∙ ap (λ o. copies job moment key (Some node) o) nothing ∙ at in

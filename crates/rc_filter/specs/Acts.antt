@@ -8,17 +8,18 @@ use Rattle.rc_tree.specs.Tree.{Node}
 use Rattle.rc_class.specs.declared.class.Class.{Class}
 use Rattle.rc_class.specs.declared.class.Class.TheVariants as class
 use Rattle.rc_class.specs.declared.decision.Act.{Act}
-use Rattle.rc_class.specs.declared.decision.Act.TheVariants.{Copy, Make, Touch, Extra, Mismatch, Keep}
+use Rattle.rc_class.specs.declared.decision.Act.TheVariants.{Copy, Make, Touch, Fix, Extra, Mismatch, Keep}
 use Rattle.rc_class.specs.declared.decision.Reason.{Reason}
 use Rattle.rc_class.specs.declared.decision.Reason.TheVariants as reason
 use Rattle.rc_class.specs.declared.facts.Facts.{Facts}
 use Rattle.rc_class.specs.declared.facts.Grain.{Grain}
 use Rattle.rc_class.specs.declared.rules.Rules.{Rules}
-use Rattle.rc_class.specs.Class.{class_against, is_mismatched, is_same_attr}
+use Rattle.rc_class.specs.Class.{class_against, is_extra, is_lonely, is_mismatched, is_same_attr}
 use Rattle.rc_job.specs.declared.flags.DirectoryFlags.{DirectoryFlags}
 use Rattle.rc_job.specs.declared.job.Job.{Job}
 use Rattle.rc_job.specs.declared.choices.Sub.{Sub}
 use Rattle.rc_job.specs.declared.choices.Sub.TheVariants as sub
+use Rattle.rc_filter.specs.Filters.{is_wrong_age, is_wrong_attr, is_wrong_size}
 use Rattle.rc_filter.specs.Matching.{is_excluded_directory, is_excluded_file, is_named}
 
 -- how exactly a job compares written times
@@ -38,11 +39,14 @@ is_excluded_class job class.Tweaked = not job.with_tweaked
 is_excluded_class job class.Extra = false
 is_excluded_class job class.Mismatched = false
 
--- why a source file of a class is kept: the first reason that holds, and none where it is copied
+-- why a source file of a class is not copied: the first reason that holds
 abbrev pub kept_for : Job → ℕ → List (List ℕ) → Facts → Class → Option Reason
 kept_for job moment key source class =
     if not (is_named job key) then Some reason.NotNamed
     else if is_excluded_file job key then Some reason.Excluded
+    else if is_wrong_attr job source.attr then Some reason.Attr
+    else if is_wrong_size job source.size then Some reason.Size
+    else if is_wrong_age job moment source.written then Some reason.Age
     else if is_excluded_class job class then Some reason.Class
     else None
 
@@ -51,9 +55,19 @@ abbrev pub unless : Option Reason → Act → Act
 unless None act = act
 unless (Some reason) act = Keep reason
 
+-- a file of this class stands on both sides, and times or security are mended
+abbrev pub is_mended : Job → Class → Bool
+is_mended job class = not (is_lonely class || is_extra class) && (job.secfix || job.timfix)
+
+-- an act; but where files are mended, one that would be kept for its class is
+abbrev pub mended : Bool → Act → Act
+mended mends (Keep reason.Class) = if mends then Fix else Keep reason.Class
+mended mends act = act
+
 abbrev pub class_act : Job → ℕ → List (List ℕ) → Facts → Class → Act
 class_act job moment key source class =
-    if is_mismatched class then Mismatch else unless (kept_for job moment key source class) Copy
+    if is_mismatched class then Mismatch
+    else mended (is_mended job class) (unless (kept_for job moment key source class) Copy)
 
 -- what a job does with the source file of this key and these facts, where the target has that there
 abbrev pub file_act : Job → ℕ → List (List ℕ) → Facts → Option Facts → Act
@@ -140,3 +154,7 @@ rules_of job = record {
   secfix = job.secfix;
   timfix = job.timfix;
 }
+
+-- copies have the source's bytes: under D, and not under `/CREATE`
+abbrev pub copies_bytes : Job → Bool
+copies_bytes job = job.copy.data_bytes && not job.create

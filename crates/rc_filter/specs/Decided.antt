@@ -16,7 +16,7 @@ use Rattle.rc_class.specs.Class.{class_against, facts_of}
 use Rattle.rc_class.specs.Start.{Start}
 use Rattle.rc_class.specs.Units.{is_copy}
 use Rattle.rc_job.specs.declared.job.Job.{Job}
-use Rattle.rc_filter.specs.Acts.{grain_of, file_act, directory_act, extra_act, rules_of, kind_and_props_of}
+use Rattle.rc_filter.specs.Acts.{copies_bytes, grain_of, file_act, directory_act, extra_act, rules_of, kind_and_props_of}
 use Rattle.rc_filter.specs.Scope.{is_decided}
 
 -- Files, by their own facts
@@ -103,6 +103,6 @@ start_of job source target = record {
   target = target;
   job = [];
   rules = rules_of job;
-  with_bytes = job.copy.data_bytes;
+  with_bytes = copies_bytes job;
   decided = decided_at job source target;
 }

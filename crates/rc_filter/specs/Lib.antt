@@ -1,4 +1,5 @@
 pub mod Acts
 pub mod Decided
+pub mod Filters
 pub mod Matching
 pub mod Scope

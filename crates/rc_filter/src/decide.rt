@@ -5,9 +5,10 @@ ghost use Rattle.std.specs.Option.{option_copied};
 ghost use Rattle.rc_tree.specs.declared.attr.Kind.TheVariants.{File};
 ghost use Rattle.rc_tree.specs.Path.{key_of};
 ghost use Rattle.rc_class.specs.Class.{class_against};
-ghost use Rattle.rc_filter.specs.Acts.{are_same_times, class_act, differ, directory_act, extra_act, extra_directory_act, extra_file_act, file_act, grain_of, is_all, is_excluded_class, kept_for, lonely_act, rules_of, kind_and_props, standing_act};
+ghost use Rattle.rc_filter.specs.Acts.{are_same_times, class_act, copies_bytes, differ, directory_act, extra_act, extra_directory_act, extra_file_act, file_act, grain_of, is_all, is_excluded_class, is_mended, kept_for, lonely_act, mended, rules_of, kind_and_props, standing_act};
 ghost use Rattle.rc_filter.specs.Scope.{reaches};
 
+use crate::filters::{is_wrong_age, is_wrong_attr, is_wrong_size};
 use crate::matching::{is_excluded_directory, is_excluded_file, is_named};
 use rc_class::{Act, Class, Facts, Grain, Reason, Rules, class_of, same_attr};
 use rc_job::{DirectoryFlags, Job, Sub};
@@ -89,6 +90,13 @@ pub fn rules(job: &Job) -> Rules
     }
 }
 
+/// Whether copies have the source's bytes: under D of `/COPY`, and not under `/CREATE`.
+pub fn copies_bytes(job: &Job) -> bool
+    ensures { result ≡ copies_bytes job.now }
+{
+    job.copy.data_bytes && !job.create
+}
+
 // Files
 
 // The class of a source file.
@@ -104,26 +112,44 @@ fn class_act(job: &Job, moment: Moment, path: &Path, source: &Facts, class: Clas
     if class == Class::Mismatched {
         return Act::Mismatch;
     }
-    match kept_for(job, moment, path, source, class) {
+    let act = match kept_for(job, moment, path, source, class) {
         None => Act::Copy,
         Some(reason) => Act::Keep(reason),
+    };
+    mended(is_mended(job, class), act)
+}
+
+// An act; but where files are mended, one that would be kept for its class is.
+fn mended(mends: bool, act: Act) -> Act
+    ensures { result ≡ mended mends act }
+{
+    match act {
+        Act::Keep(Reason::Class) if mends => Act::Fix,
+        _ => act,
     }
 }
 
-// Why a source file of a class is kept: the first reason that holds.
-fn kept_for(
-    job: &Job,
-    _moment: Moment,
-    path: &Path,
-    _source: &Facts,
-    class: Class,
-) -> Option<Reason>
-    ensures { result ≡ kept_for job.now _moment (key_of path.now) _source.now class }
+// Whether a file of this class stands on both sides, and times or security are mended.
+fn is_mended(job: &Job, class: Class) -> bool
+    ensures { result ≡ is_mended job.now class }
+{
+    class != Class::Lonely && class != Class::Extra && (job.secfix || job.timfix)
+}
+
+// Why a source file of a class is not copied: the first reason that holds.
+fn kept_for(job: &Job, moment: Moment, path: &Path, source: &Facts, class: Class) -> Option<Reason>
+    ensures { result ≡ kept_for job.now moment (key_of path.now) source.now class }
 {
     if !is_named(job, path) {
         Some(Reason::NotNamed)
     } else if is_excluded_file(job, path) {
         Some(Reason::Excluded)
+    } else if is_wrong_attr(job, source.attr) {
+        Some(Reason::Attr)
+    } else if is_wrong_size(job, source.size) {
+        Some(Reason::Size)
+    } else if is_wrong_age(job, moment, source.written) {
+        Some(Reason::Age)
     } else if is_excluded_class(job, class) {
         Some(Reason::Class)
     } else {

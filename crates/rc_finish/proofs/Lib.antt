@@ -5,3 +5,4 @@ pub mod PassLemmas
 pub mod PlanLemmas
 pub mod Retries
 pub mod StopLemmas
+pub mod WaitLemmas

@@ -8,6 +8,7 @@ ghost use Rattle.rc_volume.specs.Faults.{side_cause};
 ghost use Rattle.rc_volume.specs.Frames.{ChangesAt, ChangesSide};
 ghost use Rattle.rc_volume.specs.Log.{changed, make};
 ghost use Rattle.rc_volume.specs.Site.{fresh_dir};
+ghost use Rattle.rc_volume.specs.Waits.{Waits};
 ghost use Rattle.rc_finish.specs.Calls.{finish_cause, LogsCalls, LogsEach, LogsPass, Makes};
 ghost use Rattle.rc_finish.specs.Passes.{directory_at, has_any, is_make, made, AreBelowRoot, AreFit, Ends, HasPassed, IsMakable, IsNow, IsPassing};
 
@@ -49,7 +50,10 @@ pub fn make_dirs<S: Site, C: Clock>(
     ensures clock { C.tells ≡ true → C.always clock.new ≡ C.always clock.old }
     ensures last { C.last clock.new ≡ C.last clock.old }
     ensures unread { C.reads clock.new ≡ C.reads clock.old }
-    ensures no_pause { retries ≡ 0 → C.pauses clock.new ≡ C.pauses clock.old }
+    ensures waits { Waits wait (finish_cause retries result)
+        (S.view site.old).faults (S.view site.new).faults
+        (C.paused clock.old) (C.paused clock.new) }
+    ensures no_pause { retries ≡ 0 → C.paused clock.new ≡ C.paused clock.old }
 {
     let tries = Tries { retries, wait };
     let items = plan.items.items();
@@ -87,7 +91,10 @@ fn make_each<S: Site, C: Clock>(
     ensures clock { C.tells ≡ true → C.always clock.new ≡ C.always clock.old }
     ensures last { C.last clock.new ≡ C.last clock.old }
     ensures unread { C.reads clock.new ≡ C.reads clock.old }
-    ensures no_pause { tries.retries ≡ 0 → C.pauses clock.new ≡ C.pauses clock.old }
+    ensures waits { Waits tries.wait (finish_cause tries.retries result)
+        (S.view site.old).faults (S.view site.new).faults
+        (C.paused clock.old) (C.paused clock.new) }
+    ensures no_pause { tries.retries ≡ 0 → C.paused clock.new ≡ C.paused clock.old }
 {
     for item in items {
         match make_item(alloc, site, item, tries, clock) {
@@ -118,7 +125,10 @@ fn make_item<S: Site, C: Clock>(
     ensures clock { C.tells ≡ true → C.always clock.new ≡ C.always clock.old }
     ensures last { C.last clock.new ≡ C.last clock.old }
     ensures unread { C.reads clock.new ≡ C.reads clock.old }
-    ensures no_pause { tries.retries ≡ 0 → C.pauses clock.new ≡ C.pauses clock.old }
+    ensures waits { Waits tries.wait (finish_cause tries.retries result)
+        (S.view site.old).faults (S.view site.new).faults
+        (C.paused clock.old) (C.paused clock.new) }
+    ensures no_pause { tries.retries ≡ 0 → C.paused clock.new ≡ C.paused clock.old }
 {
     if item.act == Act::Make {
         make(alloc, site, &item.path, tries, clock)
@@ -147,7 +157,10 @@ fn make<S: Site, C: Clock>(
     ensures clock { C.tells ≡ true → C.always clock.new ≡ C.always clock.old }
     ensures last { C.last clock.new ≡ C.last clock.old }
     ensures unread { C.reads clock.new ≡ C.reads clock.old }
-    ensures no_pause { tries.retries ≡ 0 → C.pauses clock.new ≡ C.pauses clock.old }
+    ensures waits { Waits tries.wait (finish_cause tries.retries result)
+        (S.view site.old).faults (S.view site.new).faults
+        (C.paused clock.old) (C.paused clock.new) }
+    ensures no_pause { tries.retries ≡ 0 → C.paused clock.new ≡ C.paused clock.old }
 {
     for _ in 0..tries.retries {
         match attempt(alloc, site, path) {

@@ -7,6 +7,7 @@ ghost use Rattle.rc_volume.specs.declared.site.Side.TheVariants.{Target};
 ghost use Rattle.rc_volume.specs.Frames.{ChangesAt, ChangesSide};
 ghost use Rattle.rc_volume.specs.Log.{changed, set_props};
 ghost use Rattle.rc_volume.specs.Site.{node_at, with_props, Becomes};
+ghost use Rattle.rc_volume.specs.Waits.{Waits};
 ghost use Rattle.rc_finish.specs.Calls.{finish_cause, Gives, LogsCalls, LogsEach, LogsGiven, LogsPass};
 ghost use Rattle.rc_finish.specs.Passes.{given, gives_props, has_any, props_given, with_given, AreBelowRoot, Ends, HasPassed, IsNow, IsPassing};
 
@@ -49,7 +50,10 @@ pub fn props_pass<S: Site, C: Clock>(
     ensures clock { C.tells ≡ true → C.always clock.new ≡ C.always clock.old }
     ensures last { C.last clock.new ≡ C.last clock.old }
     ensures unread { C.reads clock.new ≡ C.reads clock.old }
-    ensures no_pause { retries ≡ 0 → C.pauses clock.new ≡ C.pauses clock.old }
+    ensures waits { Waits wait (finish_cause retries result)
+        (S.view site.old).faults (S.view site.new).faults
+        (C.paused clock.old) (C.paused clock.new) }
+    ensures no_pause { retries ≡ 0 → C.paused clock.new ≡ C.paused clock.old }
 {
     let giving = Giving {
         rules,
@@ -108,7 +112,10 @@ fn give_each<S: Site, C: Clock>(
     ensures clock { C.tells ≡ true → C.always clock.new ≡ C.always clock.old }
     ensures last { C.last clock.new ≡ C.last clock.old }
     ensures unread { C.reads clock.new ≡ C.reads clock.old }
-    ensures no_pause { giving.now.tries.retries ≡ 0 → C.pauses clock.new ≡ C.pauses clock.old }
+    ensures waits { Waits giving.now.tries.wait (finish_cause giving.now.tries.retries result)
+        (S.view site.old).faults (S.view site.new).faults
+        (C.paused clock.old) (C.paused clock.new) }
+    ensures no_pause { giving.now.tries.retries ≡ 0 → C.paused clock.new ≡ C.paused clock.old }
 {
     let mut left = items.len();
     while left > 0 {
@@ -141,7 +148,10 @@ fn give_item<S: Site, C: Clock>(
     ensures clock { C.tells ≡ true → C.always clock.new ≡ C.always clock.old }
     ensures last { C.last clock.new ≡ C.last clock.old }
     ensures unread { C.reads clock.new ≡ C.reads clock.old }
-    ensures no_pause { giving.now.tries.retries ≡ 0 → C.pauses clock.new ≡ C.pauses clock.old }
+    ensures waits { Waits giving.now.tries.wait (finish_cause giving.now.tries.retries result)
+        (S.view site.old).faults (S.view site.new).faults
+        (C.paused clock.old) (C.paused clock.new) }
+    ensures no_pause { giving.now.tries.retries ≡ 0 → C.paused clock.new ≡ C.paused clock.old }
 {
     if !gives(item.act) {
         return Ok(());
@@ -175,7 +185,10 @@ fn give_from<S: Site, C: Clock>(
     ensures clock { C.tells ≡ true → C.always clock.new ≡ C.always clock.old }
     ensures last { C.last clock.new ≡ C.last clock.old }
     ensures unread { C.reads clock.new ≡ C.reads clock.old }
-    ensures no_pause { giving.now.tries.retries ≡ 0 → C.pauses clock.new ≡ C.pauses clock.old }
+    ensures waits { Waits giving.now.tries.wait (finish_cause giving.now.tries.retries result)
+        (S.view site.old).faults (S.view site.new).faults
+        (C.paused clock.old) (C.paused clock.new) }
+    ensures no_pause { giving.now.tries.retries ≡ 0 → C.paused clock.new ≡ C.paused clock.old }
 {
     match look(alloc, site, Side::Target, &item.path, giving.tries, clock) {
         Ok(Some(old)) => match props_given(alloc, giving, item.act, from, &old.props) {
@@ -230,7 +243,10 @@ fn set<S: Site, C: Clock>(
     ensures clock { C.tells ≡ true → C.always clock.new ≡ C.always clock.old }
     ensures last { C.last clock.new ≡ C.last clock.old }
     ensures unread { C.reads clock.new ≡ C.reads clock.old }
-    ensures no_pause { tries.retries ≡ 0 → C.pauses clock.new ≡ C.pauses clock.old }
+    ensures waits { Waits tries.wait (finish_cause tries.retries result)
+        (S.view site.old).faults (S.view site.new).faults
+        (C.paused clock.old) (C.paused clock.new) }
+    ensures no_pause { tries.retries ≡ 0 → C.paused clock.new ≡ C.paused clock.old }
 {
     for _ in 0..tries.retries {
         match site.set_props(alloc, Side::Target, path, props) {

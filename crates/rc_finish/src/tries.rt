@@ -6,6 +6,7 @@ ghost use Rattle.rc_tree.specs.Tree.{IsTree};
 ghost use Rattle.rc_volume.specs.declared.site.Part.{Part};
 ghost use Rattle.rc_volume.specs.Frames.{Looks, Syncs};
 ghost use Rattle.rc_volume.specs.Site.{entry_of, node_at};
+ghost use Rattle.rc_volume.specs.Waits.{Waits};
 ghost use Rattle.rc_finish.specs.Calls.{fault_of, finish_cause, SyncsWhere};
 
 use crate::FinishErr;
@@ -37,7 +38,10 @@ pub(crate) fn look<S: Site, C: Clock>(
     ensures clock { C.tells ≡ true → C.always clock.new ≡ C.always clock.old }
     ensures last { C.last clock.new ≡ C.last clock.old }
     ensures unread { C.reads clock.new ≡ C.reads clock.old }
-    ensures no_pause { tries.retries ≡ 0 → C.pauses clock.new ≡ C.pauses clock.old }
+    ensures waits { Waits tries.wait (finish_cause tries.retries result)
+        (S.view site.old).faults (S.view site.new).faults
+        (C.paused clock.old) (C.paused clock.new) }
+    ensures no_pause { tries.retries ≡ 0 → C.paused clock.new ≡ C.paused clock.old }
 {
     for _ in 0..tries.retries {
         match site.stat(alloc, side, path) {
@@ -69,7 +73,10 @@ pub(crate) fn sync<S: Site, C: Clock>(
     ensures clock { C.tells ≡ true → C.always clock.new ≡ C.always clock.old }
     ensures last { C.last clock.new ≡ C.last clock.old }
     ensures unread { C.reads clock.new ≡ C.reads clock.old }
-    ensures no_pause { tries.retries ≡ 0 → C.pauses clock.new ≡ C.pauses clock.old }
+    ensures waits { Waits tries.wait (finish_cause tries.retries result)
+        (S.view site.old).faults (S.view site.new).faults
+        (C.paused clock.old) (C.paused clock.new) }
+    ensures no_pause { tries.retries ≡ 0 → C.paused clock.new ≡ C.paused clock.old }
 {
     if !is_asked {
         return Ok(());

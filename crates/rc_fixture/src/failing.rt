@@ -38,27 +38,37 @@ pub enum Call {
     Fill,
 }
 
-/// A site in memory on which one call fails, changing nothing of what is told: that of its kind behind `before` others. All
-/// else passes on to the site behind it, and what that one tells it tells too. A changing call that fails is in the log.
+/// A site in memory on which one call fails, changing nothing of what is told: those of its kind behind `before` others, so
+/// many `times`. All else passes on to the site behind it, and what that one tells it tells too. A changing call that fails
+/// is in the log.
 #[derive(Debug, Drop)]
 pub struct FailingSite {
     pub behind: MemSite,
     pub call: Call,
     pub before: u64,
+    pub times: u64,
     source_failures: u64,
     target_failures: u64,
     record_failures: u64,
 }
 
 impl FailingSite {
-    /// The site on which this call fails.
+    /// The site on which this call fails, always.
     pub fn new(behind: MemSite, call: Call, before: u64) -> FailingSite
+        ensures { result.behind ≡ behind }
+    {
+        FailingSite::failing_times(behind, call, before, u64::MAX)
+    }
+
+    /// The site on which this call fails so many times.
+    pub fn failing_times(behind: MemSite, call: Call, before: u64, times: u64) -> FailingSite
         ensures { result.behind ≡ behind }
     {
         FailingSite {
             behind,
             call,
             before,
+            times,
             source_failures: 0,
             target_failures: 0,
             record_failures: 0,
@@ -77,6 +87,10 @@ impl FailingSite {
             self.before -= 1;
             return false;
         }
+        if self.times == 0 {
+            return false;
+        }
+        self.times -= 1;
         true
     }
 

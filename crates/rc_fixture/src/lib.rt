@@ -1,8 +1,8 @@
-//! What tests of several crates begin with: flat trees in memory, and a site in memory on which one call fails.
+//! What tests of several crates begin with: small trees in memory, and a site in memory on which one call fails.
 #![tactic(auto)]
 
 mod failing;
-mod flat;
+mod trees;
 
 pub use failing::{Call, FailingReader, FailingSink, FailingSite, Failures};
-pub use flat::{FixtureErr, Row, flat_tree, plain_props, put_entry};
+pub use trees::{FixtureErr, Row, flat_tree, plain_props, put_entry};

@@ -1,6 +1,6 @@
 -- A job that is asked for has no refusal, and words that are built never stop its run.
 use Rattle.std.proofs.Common.{◌≡◌, ℕ, Bool, true, false, ◌&&◌, ◌==◌, List, [], ◌∷◌, Option, None, Some, Result, Ok, Err, map, refl, sym, ap, subst, ◌∙◌}
-use Rattle.std.specs.Prelude.{IfOk, is_some, if◌then◌else◌}
+use Rattle.std.specs.Prelude.{IfOk, is_some, not, if◌then◌else◌}
 use Rattle.std.specs.List.{list_any}
 use Rattle.std.proofs.lemmas.Bool.{eqb-true}
 use Rattle.rc_job.specs.declared.job.Job.{Job}
@@ -8,7 +8,7 @@ use Rattle.rc_words.specs.Meaning.{words_of}
 use Rattle.rc_words.specs.declared.setting.Placed.{Placed}
 use Rattle.rc_words.specs.declared.setting.WordsErr.{WordsErr}
 use Rattle.rc_jobfiles.specs.declared.asking.Refused.TheVariants as refused
-use Rattle.rc_jobfiles.specs.Ask.{as_word, are_built, asked, asked_by, built, is_built, judged}
+use Rattle.rc_jobfiles.specs.Ask.{as_word, are_built, asked, asked_by, is_built, unbuilt, judged}
 use Rattle.rc_jobfiles.specs.Merge.{given, has, merged, number_of}
 use Rattle.rc_jobfiles.specs.Refusal.{IsWhole, excludes, is_too_long, lacks, refusal_of, roots_overlap}
 
@@ -39,10 +39,10 @@ is_whole job h =
 
 -- Settings that are built are none of /QUIT
 
-not_quit : (n : ℕ) (is : Bool) → (n == 70) ≡ is → list_any (λ b. n == b) built ≡ true → is ≡ false
+not_quit : (n : ℕ) (is : Bool) → (n == 70) ≡ is → not (list_any (λ b. n == b) unbuilt) ≡ true → is ≡ false
 not_quit n false e h = refl
 not_quit n true e h =
-    let no : false ≡ true = subst (λ (m : ℕ). list_any (λ b. m == b) built ≡ true) (eqb-true n 70 e) h in
+    let no : false ≡ true = subst (λ (m : ℕ). not (list_any (λ b. m == b) unbuilt) ≡ true) (eqb-true n 70 e) h in
     cc
 
 both : (a b : Bool) → (a && b) ≡ true → (a ≡ true) × (b ≡ true)

@@ -1,5 +1,5 @@
 -- What the words of a command line ask for, and why others are refused.
-use Rattle.std.specs.Prelude.{ℕ, Bool, false, ◌==◌, List, [], ◌∷◌, Option, None, Some, String, Result, Ok, Err, map, chars, string_bytes, if◌then◌else◌}
+use Rattle.std.specs.Prelude.{ℕ, Bool, false, not, ◌==◌, List, [], ◌∷◌, Option, None, Some, String, Result, Ok, Err, map, chars, string_bytes, if◌then◌else◌}
 use Rattle.std.specs.List.{list_any, list_all}
 use Rattle.rc_job.specs.declared.job.Job.{Job}
 use Rattle.rc_words.specs.Meaning.{words_of}
@@ -25,21 +25,22 @@ as_word text = record { text = text; quoted = false }
 
 -- What is built
 
--- the switches that have their effect in a run, by their numbers in the switch table
-abbrev pub built : List ℕ
-built =
-    -- the roots, /IF, /S, /E, /LEV:
-    0 ∷ 1 ∷ 4 ∷ 5 ∷ 6 ∷ 7
-    -- /COPY:, /SEC, /COPYALL, /NOCOPY, /DCOPY:, /NODCOPY
-    ∷ 13 ∷ 14 ∷ 15 ∷ 16 ∷ 17 ∷ 18
-    -- /XF, /XD, /XC, /XN, /XO, /XL, /XX, /IS, /IT
-    ∷ 27 ∷ 28 ∷ 29 ∷ 30 ∷ 31 ∷ 32 ∷ 33 ∷ 34 ∷ 35
-    -- /FFT, /DST
-    ∷ 40 ∷ 41
+-- the switches that have no effect in a run so far, by their numbers in the switch table
+abbrev pub unbuilt : List ℕ
+unbuilt =
+    -- /NOSD, /NODD, /PURGE, /MIR, /MOV, /MOVE, /M
+    2 ∷ 3 ∷ 8 ∷ 9 ∷ 10 ∷ 11 ∷ 24
+    -- /L, /V, /NFL, /NDL, /NC, /NS, /NJH, /NJS, /BYTES, /FP, /TS
+    ∷ 49 ∷ 50 ∷ 51 ∷ 52 ∷ 53 ∷ 54 ∷ 55 ∷ 56 ∷ 57 ∷ 58 ∷ 59
+    -- /JOB:, /SAVE:, /QUIT, /DROP
+    ∷ 68 ∷ 69 ∷ 70 ∷ 71
     ∷ []
 
+abbrev pub is_unbuilt : Setting → Bool
+is_unbuilt setting = list_any (λ n. number_of setting == n) unbuilt
+
 abbrev pub is_built : Setting → Bool
-is_built setting = list_any (λ n. number_of setting == n) built
+is_built setting = not (is_unbuilt setting)
 
 abbrev pub are_built : List Placed → Bool
 are_built settings = list_all (λ p. is_built p.setting) settings

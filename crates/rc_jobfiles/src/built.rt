@@ -1,20 +1,18 @@
 //! Which switches have their effect in a run.
 ghost use Rattle.std.specs.Prelude.{◌≡◌};
-ghost use Rattle.rc_jobfiles.specs.Ask.{is_built, are_built};
+ghost use Rattle.rc_jobfiles.specs.Ask.{is_built, is_unbuilt, are_built};
 
 use crate::lookup::number_of;
 use rc_words::{Placed, Setting};
 
-// Their numbers in the switch table.
-const BUILT: [u8; 23] = [
-    // The roots, /IF, /S, /E, /LEV:
-    0, 1, 4, 5, 6, 7, //
-    // /COPY:, /SEC, /COPYALL, /NOCOPY, /DCOPY:, /NODCOPY
-    13, 14, 15, 16, 17, 18, //
-    // /XF, /XD, /XC, /XN, /XO, /XL, /XX, /IS, /IT
-    27, 28, 29, 30, 31, 32, 33, 34, 35, //
-    // /FFT, /DST
-    40, 41,
+// Those that have none so far, by their numbers in the switch table.
+const UNBUILT: [u8; 22] = [
+    // /NOSD, /NODD, /PURGE, /MIR, /MOV, /MOVE, /M
+    2, 3, 8, 9, 10, 11, 24, //
+    // /L, /V, /NFL, /NDL, /NC, /NS, /NJH, /NJS, /BYTES, /FP, /TS
+    49, 50, 51, 52, 53, 54, 55, 56, 57, 58, 59, //
+    // /JOB:, /SAVE:, /QUIT, /DROP
+    68, 69, 70, 71,
 ];
 
 /// Whether each setting has its effect in a run.
@@ -27,6 +25,12 @@ pub(crate) fn are_built(settings: &[Placed]) -> bool
 fn is_built(setting: &Setting) -> bool
     ensures { result ≡ is_built setting.now }
 {
+    !is_unbuilt(setting)
+}
+
+fn is_unbuilt(setting: &Setting) -> bool
+    ensures { result ≡ is_unbuilt setting.now }
+{
     let number = number_of(setting);
-    BUILT.iter().any(|n| number == *n)
+    UNBUILT.iter().any(|n| number == *n)
 }

@@ -12,18 +12,20 @@ pub struct FixedClock {
     moment: Moment,
     reads: u64,
     pauses: u64,
+    waited: u64,
 }
 
 impl FixedClock {
     /// A clock that stands at `moment`, in 100-nanosecond units since 1601.
     pub fn new(moment: u64) -> FixedClock
         requires { moment ≤ GREATEST_MOMENT }
-        ensures { result ≡ record { moment = moment; reads = 0; pauses = 0 } }
+        ensures { result ≡ record { moment = moment; reads = 0; pauses = 0; waited = 0 } }
     {
         FixedClock {
             moment: Moment::new(moment),
             reads: 0,
             pauses: 0,
+            waited: 0,
         }
     }
 
@@ -40,6 +42,13 @@ impl FixedClock {
     {
         self.pauses
     }
+
+    /// How many seconds it was to wait in all its pauses.
+    pub fn waited(&self) -> u64
+        ensures { result ≡ self.now.waited }
+    {
+        self.waited
+    }
 }
 
 impl Clock for FixedClock {
@@ -51,14 +60,15 @@ impl Clock for FixedClock {
 
     ghost reads = { λ c. c.reads };
 
-    ghost pauses = { λ c. c.pauses };
+    ghost paused = { λ c. record { times = c.pauses; seconds = c.waited } };
 
     fn moment(&mut self) -> u64 {
         self.reads = self.reads.saturating_add(1);
         self.moment.units()
     }
 
-    fn pause(&mut self, _seconds: u32) {
+    fn pause(&mut self, seconds: u32) {
         self.pauses = self.pauses.saturating_add(1);
+        self.waited = self.waited.saturating_add(seconds as u64);
     }
 }

@@ -1,5 +1,6 @@
 pub mod Floors
 pub mod Leads
+pub mod Listings
 pub mod Makes
 pub mod Pairings
 pub mod Plans

@@ -23,17 +23,19 @@ use Rattle.rc_class.specs.declared.class.Class.TheVariants.{Extra}
 use Rattle.rc_class.specs.declared.decision.After.TheVariants.{Nothing}
 use Rattle.rc_class.specs.declared.decision.Act.{Act}
 use Rattle.rc_class.specs.declared.decision.Act.TheVariants as act
+use Rattle.rc_class.specs.declared.decision.Reason.{Reason}
 use Rattle.rc_class.specs.declared.decision.Reason.TheVariants as reason
 use Rattle.rc_class.specs.declared.facts.Facts.{Facts}
 use Rattle.rc_class.specs.declared.item.Item.{Item}
-use Rattle.rc_class.specs.Class.{class_against, facts_of, is_mismatched}
+use Rattle.rc_class.specs.Class.{class_against, facts_of}
 use Rattle.rc_class.specs.Items.{are_rising, item_at, keyed}
 use Rattle.rc_class.specs.Units.{is_copy}
 use Rattle.rc_job.specs.declared.job.Job.{Job}
-use Rattle.rc_filter.specs.Acts.{class_act, differ, directory_act, extra_act, file_act, grain_of, is_all, is_excluded_class, kind_and_props_of, standing_act, unless}
+use Rattle.rc_filter.specs.Acts.{class_act, differ, directory_act, extra_act, file_act, grain_of, is_all, kind_and_props_of, standing_act}
 use Rattle.rc_filter.specs.Decided.{act_for, copies, copies_kind, decided_at, is_copied, item_of, some_copied, source_act}
 use Rattle.rc_filter.specs.Matching.{is_excluded_directory, is_excluded_file, is_named}
 use Rattle.rc_filter.specs.Scope.{decides, is_decided}
+use Rattle.rc_filter.proofs.FileActs.{keeps_file, of_class_act}
 use Rattle.rc_tree.specs.Tree.{kind_at}
 use Rattle.rc_plan.specs.Deciding.{AreDecidedAlone, decided_alone}
 use Rattle.rc_plan.specs.Made.{all_amended, amended, first_copied, leading, leads_to, needed}
@@ -159,20 +161,21 @@ needed_directory : (below : Bool) (job : Job) (key : List (List ℕ)) (source : 
 needed_directory below job key source None = needed_lonely below (is_excluded_directory job key) job.xl (is_all job.sub)
 needed_directory below job key source (Some there) = needed_there below job key source there.0 there.1
 
-needed_class : (below mismatched unnamed excluded left : Bool) → needed below (cond mismatched act.Mismatch (unless (cond unnamed (Some reason.NotNamed) (cond excluded (Some reason.Excluded) (cond left (Some reason.Class) None))) act.Copy)) ≡ cond mismatched act.Mismatch (unless (cond unnamed (Some reason.NotNamed) (cond excluded (Some reason.Excluded) (cond left (Some reason.Class) None))) act.Copy)
-needed_class true true unnamed excluded left = refl
-needed_class true false true excluded left = refl
-needed_class true false false true left = refl
-needed_class true false false false true = refl
-needed_class true false false false false = refl
-needed_class false true unnamed excluded left = refl
-needed_class false false true excluded left = refl
-needed_class false false false true left = refl
-needed_class false false false false true = refl
-needed_class false false false false false = refl
+-- a file is kept for no reason that what lies below it takes away
+needed_kept : (below : Bool) (why : Reason) → keeps_file why ≡ true → needed below (act.Keep why) ≡ act.Keep why
+needed_kept false why is = refl
+needed_kept true reason.NotNamed is = refl
+needed_kept true reason.Excluded is = refl
+needed_kept true reason.Attr is = refl
+needed_kept true reason.Size is = refl
+needed_kept true reason.Age is = refl
+needed_kept true reason.Class is = refl
+needed_kept true reason.Empty is = absurd (true≢false (sym is))
+needed_kept true reason.Same is = refl
 
 needed_file : (below : Bool) (job : Job) (moment : ℕ) (key : List (List ℕ)) (facts : Facts) (class : Class) → needed below (class_act job moment key facts class) ≡ class_act job moment key facts class
-needed_file below job moment key facts class = needed_class below (is_mismatched class) (not (is_named job key)) (is_excluded_file job key) (is_excluded_class job class)
+needed_file true = of_class_act (λ does. needed true does ≡ does) refl refl refl (needed_kept true)
+needed_file false = of_class_act (λ does. needed false does ≡ does) refl refl refl (needed_kept false)
 
 needed_extra_file : (below left excluded unnamed : Bool) → needed below (cond left (act.Keep reason.Class) (cond excluded (act.Keep reason.Excluded) (cond unnamed (act.Keep reason.NotNamed) act.Extra))) ≡ cond left (act.Keep reason.Class) (cond excluded (act.Keep reason.Excluded) (cond unnamed (act.Keep reason.NotNamed) act.Extra))
 needed_extra_file true true excluded unnamed = refl

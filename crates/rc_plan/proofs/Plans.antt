@@ -8,6 +8,7 @@ use Rattle.std.specs.Ordering.{eq_by_cmp}
 use Rattle.rc_tree.specs.Path.{key_cmp, key_of}
 use Rattle.rc_class.specs.Items.{are_rising, item_at}
 use Rattle.rc_class.specs.Start.{IsPlanOf}
+use Rattle.rc_filter.specs.Acts.{copies_bytes}
 use Rattle.rc_filter.specs.Decided.{planned_items}
 use Rattle.rc_job.specs.declared.job.Job.{Job}
 use Rattle.rc_volume.specs.Site.{Told}
@@ -23,9 +24,9 @@ is_plan job told moment items rising decided = record { job = refl; with_bytes =
 abbrev pub PlannedLaw : Job → Told → Type 0
 PlannedLaw job told = (plan : Plan) → IsPlanOf (start_in job told) plan → plan.items ≡ planned_items job told.source told.target plan.moment
 
-pub limit_so : (job : Job) (told : Told) (moment : ℕ) (items : List Item) (passed : Option PlanErr) → PlannedLaw job told → are_rising items ≡ true → AreDecided job told.source told.target moment items → limit_of job.copy.data_bytes items ≡ passed → limit_in job told moment ≡ passed
+pub limit_so : (job : Job) (told : Told) (moment : ℕ) (items : List Item) (passed : Option PlanErr) → PlannedLaw job told → are_rising items ≡ true → AreDecided job told.source told.target moment items → limit_of (copies_bytes job) items ≡ passed → limit_in job told moment ≡ passed
 limit_so job told moment items passed law rising decided is =
-    ap (limit_of job.copy.data_bytes) (sym (law (plan_with job moment items) (is_plan job told moment items rising decided))) ∙ is
+    ap (limit_of (copies_bytes job)) (sym (law (plan_with job moment items) (is_plan job told moment items rising decided))) ∙ is
 
 -- an answer of the limits is that of the items, or want of memory
 pub refuses_so : (passed : Option PlanErr) (e : PlanErr) → (e ≡ plan_err.NoMemory) ⊎ (passed ≡ Some e) → MayRefuse passed e

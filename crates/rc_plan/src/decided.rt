@@ -163,7 +163,8 @@ fn class_against(job: &Job, source: &Found, target: Option<&Found>) -> Class
 fn source_act(job: &Job, moment: &Moment, source: &Found, target: Option<&Found>) -> Act
     requires { decides job.now (key_of source.now.path) (option_map kind_found (Some source.now))
         (option_map kind_found (option_copied target)) ≡ true }
-    ensures { result ≡ act_by job.now moment.now source.now (option_copied target.entry) source.now.directory }
+    ensures { result
+        ≡ act_by job.now moment.now source.now (option_copied target.entry) source.now.directory }
 {
     match &source.directory {
         None => decide_file(

@@ -6,19 +6,22 @@ ghost use Rattle.rc_tree.specs.Path.{key_of};
 ghost use Rattle.rc_tree.specs.Tree.{IsDirectory, IsTree};
 ghost use Rattle.rc_volume.specs.Frames.{Looks};
 ghost use Rattle.rc_volume.specs.Site.{IsListed, Lists, tree_in};
+ghost use Rattle.rc_volume.specs.Waits.{Waits};
 ghost use Rattle.rc_plan.specs.Faults.{list_cause};
 ghost use Rattle.rc_plan.specs.Found.{AreAllOf, are_rising, found_at, found_of};
 ghost use Rattle.rc_plan.specs.Walk.{IsBehind, Steps, next_place};
 
 use rc_class::Facts;
+use rc_job::Job;
 use rc_tree::{Entry, Kind, Name, NoMemory, Path};
-use rc_volume::{Side, Site, SiteErr};
+use rc_volume::{Clock, Side, Site, SiteErr};
 use std::alloc::Global;
 
 /// Why a side could not be read.
 #[derive(Clone, Copy, Debug, PartialEq, Eq)]
 pub(crate) enum ListErr {
-    /// A directory of this side could not be listed. That side's count of faults rose.
+    /// A directory of this side could not be listed, however often that was tried. That side's count of faults rose at
+    /// each try.
     Failed { side: Side },
     NoMemory,
 }
@@ -50,10 +53,12 @@ pub(crate) enum Step {
 }
 
 /// All entries of a side, in the order of their keys.
-pub(crate) fn read_side<S: Site>(
+pub(crate) fn read_side<S: Site, C: Clock>(
     alloc: Global,
+    job: &Job,
     site: &mut S,
     side: Side,
+    clock: &mut C,
 ) -> Result<Vec<Found>, ListErr>
     ensures all { S.tells ≡ true → IfOk result
         (λ found. AreAllOf (tree_in (S.view site.old) side) found.items) }
@@ -61,7 +66,15 @@ pub(crate) fn read_side<S: Site>(
     // On every site, told or not.
     ensures rising { IfOk result (λ found. are_rising found.items ≡ true) }
     ensures root { IfOk result (λ found. found_at found.items [] ≡ None) }
-    ensures frame { Looks S.tells (list_cause result) (S.view site.old) (S.view site.new) }
+    ensures frame { Looks S.tells (list_cause job.now.retries result)
+        (S.view site.old) (S.view site.new) }
+    ensures waits { Waits job.now.wait (list_cause job.now.retries result)
+        (S.view site.old).faults (S.view site.new).faults
+        (C.paused clock.old) (C.paused clock.new) }
+    ensures no_pause { job.now.retries ≡ 0 → C.paused clock.new ≡ C.paused clock.old }
+    ensures clock { C.tells ≡ true → C.always clock.new ≡ C.always clock.old }
+    ensures last { C.last clock.new ≡ C.last clock.old }
+    ensures unread { C.reads clock.new ≡ C.reads clock.old }
 {
     let mut found = Vec::new(alloc);
     let mut place = Place {
@@ -69,7 +82,7 @@ pub(crate) fn read_side<S: Site>(
         after: None,
     };
     'entries: loop {
-        match go_on(alloc, site, side, place) {
+        match go_on(alloc, job, site, side, place, clock) {
             Ok(Step::Entered { found: entry, next }) => {
                 if found.push(entry).is_err() {
                     return Err(ListErr::NoMemory);
@@ -84,14 +97,37 @@ pub(crate) fn read_side<S: Site>(
 }
 
 // One step from a place.
-fn go_on<S: Site>(alloc: Global, site: &mut S, side: Side, place: Place) -> Result<Step, ListErr>
+fn go_on<S: Site, C: Clock>(
+    alloc: Global,
+    job: &Job,
+    site: &mut S,
+    side: Side,
+    place: Place,
+    clock: &mut C,
+) -> Result<Step, ListErr>
     requires { S.tells ≡ true → IsDirectory (tree_in (S.view site.old) side) (key_of place.dir) }
 
     ensures steps { IfOk result (Steps S.tells (tree_in (S.view site.old) side) place) }
     ensures tree { S.tells ≡ true → IsTree (tree_in (S.view site.old) side) }
-    ensures frame { Looks S.tells (list_cause result) (S.view site.old) (S.view site.new) }
+    ensures frame { Looks S.tells (list_cause job.now.retries result)
+        (S.view site.old) (S.view site.new) }
+    ensures waits { Waits job.now.wait (list_cause job.now.retries result)
+        (S.view site.old).faults (S.view site.new).faults
+        (C.paused clock.old) (C.paused clock.new) }
+    ensures no_pause { job.now.retries ≡ 0 → C.paused clock.new ≡ C.paused clock.old }
+    ensures clock { C.tells ≡ true → C.always clock.new ≡ C.always clock.old }
+    ensures last { C.last clock.new ≡ C.last clock.old }
+    ensures unread { C.reads clock.new ≡ C.reads clock.old }
 {
-    match next_entry(alloc, site, side, &place.dir, place.after.as_ref()) {
+    match next_entry(
+        alloc,
+        job,
+        site,
+        side,
+        &place.dir,
+        place.after.as_ref(),
+        clock,
+    ) {
         Ok(Some(entry)) => match enter(alloc, place, entry) {
             Ok((found, next)) => Ok(Step::Entered { found, next }),
             Err(_) => Err(ListErr::NoMemory),
@@ -105,13 +141,15 @@ fn go_on<S: Site>(alloc: Global, site: &mut S, side: Side, place: Place) -> Resu
     }
 }
 
-// The entry of a directory behind a name.
-fn next_entry<S: Site>(
+// The entry of a directory behind a name. A listing that fails is tried again.
+fn next_entry<S: Site, C: Clock>(
     alloc: Global,
+    job: &Job,
     site: &mut S,
     side: Side,
     dir: &Path,
     after: Option<&Name>,
+    clock: &mut C,
 ) -> Result<Option<Entry>, ListErr>
     requires { S.tells ≡ true → IsDirectory (tree_in (S.view site.old) side) (key_of dir.now) }
 
@@ -120,8 +158,23 @@ fn next_entry<S: Site>(
     ensures tree { S.tells ≡ true → IsTree (tree_in (S.view site.old) side) }
     ensures rising { IfOk result
         (λ found. IfSome found (IsListed (length dir.now) (option_copied after.entry))) }
-    ensures frame { Looks S.tells (list_cause result) (S.view site.old) (S.view site.new) }
+    ensures frame { Looks S.tells (list_cause job.now.retries result)
+        (S.view site.old) (S.view site.new) }
+    ensures waits { Waits job.now.wait (list_cause job.now.retries result)
+        (S.view site.old).faults (S.view site.new).faults
+        (C.paused clock.old) (C.paused clock.new) }
+    ensures no_pause { job.now.retries ≡ 0 → C.paused clock.new ≡ C.paused clock.old }
+    ensures clock { C.tells ≡ true → C.always clock.new ≡ C.always clock.old }
+    ensures last { C.last clock.new ≡ C.last clock.old }
+    ensures unread { C.reads clock.new ≡ C.reads clock.old }
 {
+    for _ in 0..job.retries {
+        match site.next_entry(alloc, side, dir, after) {
+            Ok(found) => return Ok(found),
+            Err(SiteErr::NoMemory) => return Err(ListErr::NoMemory),
+            Err(SiteErr::Failed) => clock.pause(job.wait),
+        }
+    }
     match site.next_entry(alloc, side, dir, after) {
         Ok(found) => Ok(found),
         Err(SiteErr::Failed) => Err(ListErr::Failed { side }),

@@ -6,13 +6,14 @@
 ghost use Rattle.std.specs.Prelude.{◌≡◌, true, None, IfErr, IfOk, OnOk};
 ghost use Rattle.rc_class.specs.Start.{IsPlanOf};
 ghost use Rattle.rc_volume.specs.Frames.{Looks};
+ghost use Rattle.rc_volume.specs.Waits.{Waits};
 ghost use Rattle.rc_plan.specs.Plan.{limit_in, plan_cause, plan_with, start_in, AreTrees, IsMadeFor, MayRefuse};
 
 use crate::entries::ListErr;
 use crate::limits::check_limits;
 use crate::sides::decide_site;
 use rc_class::{Item, Items, Plan};
-use rc_filter::plans_have_the_planned_items;
+use rc_filter::{copies_bytes, plans_have_the_planned_items};
 use rc_job::Job;
 use rc_tree::{Moment, Path, Text};
 use rc_volume::{Clock, Side, Site};
@@ -22,7 +23,8 @@ use thiserror::Error;
 /// Why there is no plan. The causes are looked for in this order, and want of memory may come in place of any.
 #[derive(Debug, Drop, Error)]
 pub enum PlanErr {
-    /// A directory of this side could not be listed. That side's count of faults rose.
+    /// A directory of this side could not be listed, however often that was tried. That side's count of faults rose at
+    /// each try.
     #[error("a directory could not be listed")]
     ListFault { side: Side },
     /// This side has more than 500000 decided entries: at least `count`.
@@ -35,13 +37,14 @@ pub enum PlanErr {
     NoMemory,
 }
 
-/// The plan of a job on the two trees of a site, at a moment. No tree is changed.
+/// The plan of a job on the two trees of a site, at a moment. No tree is changed. A listing that fails is tried again as
+/// often as the job says, with its wait before each retry.
 pub fn make_plan<S: Site, C: Clock>(
     alloc: Global,
     job: &Job,
     moment: Moment,
     site: &mut S,
-    _clock: &C,
+    clock: &mut C,
 ) -> Result<Plan, PlanErr>
     ensures plan { S.tells ≡ true →
         IfOk result (IsPlanOf (start_in job.now (S.view site.old).told)) }
@@ -52,11 +55,19 @@ pub fn make_plan<S: Site, C: Clock>(
         IfErr result (MayRefuse (limit_in job.now (S.view site.old).told moment)) }
     // On every site, told or not.
     ensures made { IfOk result (IsMadeFor job.now moment) }
-    ensures frame { Looks S.tells (plan_cause result) (S.view site.old) (S.view site.new) }
+    ensures frame { Looks S.tells (plan_cause job.now.retries result)
+        (S.view site.old) (S.view site.new) }
+    ensures waits { Waits job.now.wait (plan_cause job.now.retries result)
+        (S.view site.old).faults (S.view site.new).faults
+        (C.paused clock.old) (C.paused clock.new) }
+    ensures no_pause { job.now.retries ≡ 0 → C.paused clock.new ≡ C.paused clock.old }
+    ensures clock { C.tells ≡ true → C.always clock.new ≡ C.always clock.old }
+    ensures last { C.last clock.new ≡ C.last clock.old }
+    ensures unread { C.reads clock.new ≡ C.reads clock.old }
 {
     plans_have_the_planned_items();
-    match decide_site(alloc, job, moment, site) {
-        Ok(items) => match check_limits(alloc, job.copy.data_bytes, &items) {
+    match decide_site(alloc, job, moment, site, clock) {
+        Ok(items) => match check_limits(alloc, copies_bytes(job), &items) {
             Ok(()) => Ok(plan_of(alloc, job, moment, items)),
             Err(e) => Err(e),
         },
@@ -73,7 +84,7 @@ fn plan_of(alloc: Global, job: &Job, moment: Moment, items: Vec<Item>) -> Plan
         job: Text::empty(alloc),
         moment,
         stride: 0,
-        with_bytes: job.copy.data_bytes,
+        with_bytes: copies_bytes(job),
         items: Items::new(items),
     }
 }

@@ -1,3 +1,4 @@
 pub mod OutcomeLemmas
 pub mod PassLemmas
 pub mod RunLemmas
+pub mod WaitLemmas

@@ -1,5 +1,5 @@
 -- What the steps of a run say of it, by how it ends.
-use Rattle.std.proofs.Common.{◌≡◌, ℕ, zero, suc, ◌<◌, ◌≤◌, Bool, true, false, not, ◌&&◌, ◌||◌, List, [], ◌∷◌, ◌++◌, Option, Some, None, length, get_or, inl, refl, sym, ap, subst, ◌∙◌, arith}
+use Rattle.std.proofs.Common.{◌≡◌, ℕ, ◌+◌, zero, suc, ◌<◌, ◌≤◌, Bool, true, false, not, ◌&&◌, ◌||◌, List, [], ◌∷◌, ◌++◌, Option, Some, None, length, get_or, inl, refl, sym, ap, subst, ◌∙◌, arith}
 use Rattle.std.proofs.Math.Seq.{take-length}
 use Rattle.std.proofs.lemmas.Bool.{true≢false, ltb-false}
 use Rattle.std.proofs.lemmas.List.{append-nil}
@@ -17,11 +17,10 @@ use Rattle.rc_class.specs.declared.decision.Act.TheVariants.{Copy, Make, Touch, 
 use Rattle.rc_class.specs.declared.decision.After.{After}
 use Rattle.rc_class.specs.declared.decision.After.TheVariants.{Nothing}
 use Rattle.rc_class.specs.declared.class.Class.{Class}
-use Rattle.rc_class.specs.declared.decision.Reason.{Reason}
 use Rattle.rc_class.specs.declared.decision.Reason.TheVariants as reason
 use Rattle.rc_class.specs.declared.facts.Facts.{Facts}
 use Rattle.rc_class.specs.declared.item.Item.{Item}
-use Rattle.rc_class.specs.Class.{class_against, facts_of, is_mismatched}
+use Rattle.rc_class.specs.Class.{class_against, facts_of}
 use Rattle.rc_class.specs.declared.plan.Plan.{Plan}
 use Rattle.rc_class.specs.Goal.{released, source_goal, target_goal}
 use Rattle.rc_class.specs.Items.{item_at}
@@ -34,10 +33,11 @@ use Rattle.rc_copy.specs.Copying.{AreDecided, AreSmallCopies, CopiesFiles, copie
 use Rattle.rc_copy.proofs.ItemLemmas.{found_item}
 use Rattle.rc_finish.specs.Passes.{HasPassed, given, gives_props, has_any, pass_at, with_given}
 use Rattle.rc_job.specs.declared.job.Job.{Job}
-use Rattle.rc_filter.specs.Acts.{class_act, differ, directory_act, extra_act, grain_of, is_all, kept_for, kind_and_props_of, lonely_act, rules_of, standing_act, unless}
+use Rattle.rc_filter.specs.Acts.{class_act, copies_bytes, differ, directory_act, extra_act, grain_of, is_all, kind_and_props_of, lonely_act, rules_of, standing_act}
 use Rattle.rc_filter.specs.Decided.{act_for, decided_at, item_of, some_copied, start_of}
 use Rattle.rc_filter.specs.Matching.{is_excluded_directory, is_excluded_file, is_named}
 use Rattle.rc_filter.specs.Scope.{is_decided}
+use Rattle.rc_filter.proofs.FileActs.{of_class_act}
 use Rattle.rc_class.specs.declared.rules.Rules.{Rules}
 use Rattle.rc_finish.specs.declared.err.FinishErr.{FinishErr}
 use Rattle.rc_finish.specs.declared.err.FinishErr.TheVariants as finish_err
@@ -179,12 +179,7 @@ act_kept File file directory f d = f
 act_kept Dir file directory f d = d
 
 file_kept : (job : Job) (moment : ℕ) (key : List (List ℕ)) (source : Facts) (c : Class) → class_act job moment key source c ≡ Purge → ⊥
-file_kept job moment key source c = by (is_mismatched c) (kept_for job moment key source c)
-  where
-    by : (b : Bool) (kept : Option Reason) → (if b then Mismatch else unless kept Copy) ≡ Purge → ⊥
-    by true kept e = cc
-    by false None e = cc
-    by false (Some reason) e = cc
+file_kept = of_class_act (λ does. does ≡ Purge → ⊥) (λ e. cc) (λ e. cc) (λ e. cc) (λ why _ e. cc)
 
 lonely_kept : (job : Job) (key : List (List ℕ)) (below : Bool) → lonely_act job key below ≡ Purge → ⊥
 lonely_kept job key below = by (is_excluded_directory job key) job.xl (is_all job.sub || below)
@@ -310,7 +305,7 @@ pub mirrored : (job : Job) (plan : Plan) (start now : Told) → IsPlanOf (start_
 mirrored job plan start now is goals source notes none = record {
   target = λ key.
       goals key
-      ∙ ap (λ o. target_goal (rules_of job) job.copy.data_bytes plan.moment o (get start.source key) (get start.target key)) (is.items key);
+      ∙ ap (λ o. target_goal (rules_of job) (copies_bytes job) plan.moment o (get start.source key) (get start.target key)) (is.items key);
   source = λ key.
       ap (λ (t : Tree). get t key) source
       ∙ source_stays (decided_at job start.source start.target plan.moment key) (get start.source key)
@@ -432,23 +427,29 @@ counts_on at n a b c first second =
     let rose = second.0 in
     (omega (arith, low, rose), λ part. omega (arith, first part, second.1 part))
 
--- the causes of an answer of the passes
-fault_counts : (e : FinishErr) (a b c : Part → ℕ) → Counts free a b → Counts (finish_cause {T = Unit {0}} 0 (Err e)) b c → Counts (cause_of (ending (unfinished e))) a c
-fault_counts (finish_err.SiteFault side) a b c first second = counts_on (part_for side) 1 a b c first second
-fault_counts finish_err.NoMemory a b c first second = counts_free a b c first second
+counts_once : (at : Part) (retries : ℕ) (a b c : Part → ℕ) → Counts free a b → Counts (on at (retries + 1)) b c → Counts (on at 1) a c
+counts_once at retries a b c first second =
+    let low = first at in
+    let rose = second.0 in
+    (omega (arith, low, rose), λ part. omega (arith, first part, second.1 part))
 
-copy_counts : (e : CopyErr) (a b c : Part → ℕ) → Counts free a b → Counts (copy_cause {T = Unit {0}} (Err e)) b c → Counts (cause_of (ending (uncopied e))) a c
-copy_counts (copy_err.Failed side) a b c first second = counts_on (part_for side) 1 a b c first second
-copy_counts copy_err.NoMemory a b c first second = counts_free a b c first second
+-- the causes of an answer of the passes
+fault_counts : (retries : ℕ) (e : FinishErr) (a b c : Part → ℕ) → Counts free a b → Counts (finish_cause {T = Unit {0}} retries (Err e)) b c → Counts (cause_of retries (ending (unfinished e))) a c
+fault_counts retries (finish_err.SiteFault side) a b c first second = counts_once (part_for side) retries a b c first second
+fault_counts retries finish_err.NoMemory a b c first second = counts_free a b c first second
+
+copy_counts : (retries : ℕ) (e : CopyErr) (a b c : Part → ℕ) → Counts free a b → Counts (copy_cause {T = Unit {0}} (Err e)) b c → Counts (cause_of retries (ending (uncopied e))) a c
+copy_counts retries (copy_err.Failed side) a b c first second = counts_on (part_for side) 1 a b c first second
+copy_counts retries copy_err.NoMemory a b c first second = counts_free a b c first second
 
 -- directories were made, and copies failed
-pub made_then_failed : (tells : Bool) (e : CopyErr) (start one two : Seen) → ChangesSide tells Target free start one → CopiesFiles tells (copy_cause {T = Unit {0}} (Err e)) one two → CopiesFiles tells (cause_of (ending (uncopied e))) start two
-made_then_failed tells e start one two makes copies = record {
+pub made_then_failed : (retries : ℕ) (tells : Bool) (e : CopyErr) (start one two : Seen) → ChangesSide tells Target free start one → CopiesFiles tells (copy_cause {T = Unit {0}} (Err e)) one two → CopiesFiles tells (cause_of retries (ending (uncopied e))) start two
+made_then_failed retries tells e start one two makes copies = record {
   source = λ told. copies.source told ∙ makes.other_tree told;
   notes = λ told. copies.notes told ∙ makes.notes told;
   log = λ told other apart. copies.log told other apart ∙ makes.log told other apart;
   bound = copies.bound ∙ makes.bound;
-  counts = copy_counts e start.faults one.faults two.faults makes.counts copies.counts;
+  counts = copy_counts retries e start.faults one.faults two.faults makes.counts copies.counts;
 }
 
 -- all three passes went on, the last one to some end
@@ -466,13 +467,13 @@ all_passed tells start one two end makes copies gives =
     three_passes tells free free start one two end makes copies gives
     (counts_free start.faults two.faults end.faults (counts_free start.faults one.faults two.faults makes.counts copies.counts) gives.counts)
 
-pub given_then_failed : (tells : Bool) (e : FinishErr) (start one two end : Seen) → ChangesSide tells Target free start one → CopiesFiles tells free one two → ChangesSide tells Target (finish_cause {T = Unit {0}} 0 (Err e)) two end → CopiesFiles tells (cause_of (ending (unfinished e))) start end
-given_then_failed tells e start one two end makes copies gives =
+pub given_then_failed : (retries : ℕ) (tells : Bool) (e : FinishErr) (start one two end : Seen) → ChangesSide tells Target free start one → CopiesFiles tells free one two → ChangesSide tells Target (finish_cause {T = Unit {0}} retries (Err e)) two end → CopiesFiles tells (cause_of retries (ending (unfinished e))) start end
+given_then_failed retries tells e start one two end makes copies gives =
     three_passes tells _ _ start one two end makes copies gives
-    (fault_counts e start.faults two.faults end.faults (counts_free start.faults one.faults two.faults makes.counts copies.counts) gives.counts)
+    (fault_counts retries e start.faults two.faults end.faults (counts_free start.faults one.faults two.faults makes.counts copies.counts) gives.counts)
 
 -- what all items of a plan have in common
-pub same_copying : (job : Job) (plan : Plan) (rules : Rules) → rules ≡ rules_of job → plan.with_bytes ≡ job.copy.data_bytes → record { rules = rules; with_bytes = plan.with_bytes; moment = plan.moment } ≡ copying_of job plan.moment
+pub same_copying : (job : Job) (plan : Plan) (rules : Rules) → rules ≡ rules_of job → plan.with_bytes ≡ copies_bytes job → record { rules = rules; with_bytes = plan.with_bytes; moment = plan.moment } ≡ copying_of job plan.moment
 same_copying job plan rules same bytes =
     ap (λ (r : Rules). record { rules = r; with_bytes = plan.with_bytes; moment = plan.moment }) same
     ∙ ap (λ (b : Bool). record { rules = rules_of job; with_bytes = b; moment = plan.moment }) bytes

@@ -6,7 +6,7 @@ use Rattle.rc_copy.specs.declared.err.CopyErr.{CopyErr}
 use Rattle.rc_copy.specs.declared.err.CopyErr.TheVariants as copy_err
 use Rattle.rc_finish.specs.declared.err.FinishErr.{FinishErr}
 use Rattle.rc_finish.specs.declared.err.FinishErr.TheVariants as finish_err
-use Rattle.rc_filter.specs.Acts.{rules_of}
+use Rattle.rc_filter.specs.Acts.{copies_bytes, rules_of}
 use Rattle.rc_plan.specs.declared.plan.PlanErr.{PlanErr}
 use Rattle.rc_plan.specs.declared.plan.PlanErr.TheVariants as plan_err
 use Rattle.rc_plan.specs.Plan.{limit_in, start_in}
@@ -73,7 +73,7 @@ IsExpected (Some refusal) outcome = IsOrNoMemory refusal outcome
 
 -- what all items of a job have in common
 abbrev pub copying_of : Job → ℕ → Copying
-copying_of job moment = record { rules = rules_of job; with_bytes = job.copy.data_bytes; moment = moment }
+copying_of job moment = record { rules = rules_of job; with_bytes = copies_bytes job; moment = moment }
 
 -- what a run leaves of a site that tells, whatever it answers
 pub record RunLeaves (job : Job) (moment : ℕ) (start end : Told) (outcome : Outcome) : Type 0 where

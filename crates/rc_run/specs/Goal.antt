@@ -4,6 +4,7 @@ use Rattle.std.specs.FinMap.{get}
 use Rattle.rc_class.specs.declared.item.Item.{Item}
 use Rattle.rc_class.specs.Start.{Start, goal_source, goal_target}
 use Rattle.rc_copy.specs.Reading.{wants_of}
+use Rattle.rc_filter.specs.Acts.{copies_bytes}
 use Rattle.rc_filter.specs.Decided.{planned_items}
 use Rattle.rc_job.specs.declared.job.Job.{Job}
 use Rattle.rc_volume.specs.declared.want.Want.{Want}
@@ -15,7 +16,7 @@ items_at job told moment = planned_items job told.source told.target moment
 
 -- all that a run of a job reads, where it began at this moment
 abbrev pub read_by : Job → ℕ → Told → List Want
-read_by job moment start = wants_of 0 job.copy.data_bytes (items_at job start moment)
+read_by job moment start = wants_of 0 (copies_bytes job) (items_at job start moment)
 
 -- both trees are the goals at every key, and the record is empty
 pub record IsMirrored (start : Start) (moment : ℕ) (now : Told) : Type 0 where

@@ -1,13 +1,14 @@
 -- The outcomes of a run in one table: at which step each comes, and which part failed. All else that is said of them is
 -- looked up there.
-use Rattle.std.specs.Prelude.{◌≡◌, ◌⊎◌, ℕ, ◌≤◌, Bool, true, false, List, [], ◌∷◌, ◌++◌, chars, codes, decimal, Result, Ok, Err}
+use Rattle.std.specs.Prelude.{◌≡◌, ◌⊎◌, ℕ, ◌+◌, ◌≤◌, ◌==◌, Bool, true, false, if◌then◌else◌, List, [], ◌∷◌, ◌++◌, chars, codes, decimal, Result, Ok, Err}
 use Rattle.rc_report.specs.Report.{path_text}
 use Rattle.rc_volume.specs.declared.site.Part.{Part}
 use Rattle.rc_volume.specs.declared.site.Part.TheVariants as part
 use Rattle.rc_volume.specs.declared.site.Side.{Side}
 use Rattle.rc_volume.specs.declared.site.Side.TheVariants as side
-use Rattle.rc_volume.specs.Faults.{Cause, Counts, RisesIf, free, on, part_for}
+use Rattle.rc_volume.specs.Faults.{Cause, Counts, RisesIf, RoseBy, free, on, part_for}
 use Rattle.rc_volume.specs.Site.{Seen}
+use Rattle.rc_volume.specs.Waits.{Paused, Waits}
 use Rattle.rc_run.specs.declared.outcome.Outcome.{Outcome}
 use Rattle.rc_run.specs.declared.outcome.Outcome.TheVariants.{Done, Usage, NotYet, RootFault, ListFault, TooMany, TooBig, RecordFault, SiteFault, SinkFault, NoMemory}
 use Rattle.rc_run.specs.declared.outcome.Unbuilt.{Unbuilt}
@@ -89,21 +90,34 @@ last_step unreported = at_report
 last_step finished = at_end
 last_step out_of_memory = at_end
 
--- what it says of the counts of faults of the site
-abbrev pub cause_of : Ending → Cause
-cause_of (refused step) = free
-cause_of (failed step part) = on part 1
-cause_of unreported = free
-cause_of finished = free
-cause_of out_of_memory = free
+-- how many tries of one call fail before a fault at a step is answered: where a listing fails it is tried again so often
+abbrev pub tries_at : ℕ → ℕ → ℕ
+tries_at retries step = if step == at_listing then retries + 1 else 1
 
-abbrev pub run_cause : {T : Type 0} → Result T Outcome → Cause
-run_cause (Ok value) = free
-run_cause (Err outcome) = cause_of (ending outcome)
+-- what it says of the counts of faults of the site
+abbrev pub cause_of : ℕ → Ending → Cause
+cause_of retries (refused step) = free
+cause_of retries (failed step part) = on part (tries_at retries step)
+cause_of retries unreported = free
+cause_of retries finished = free
+cause_of retries out_of_memory = free
+
+abbrev pub run_cause : {T : Type 0} → ℕ → Result T Outcome → Cause
+run_cause retries (Ok value) = free
+run_cause retries (Err outcome) = cause_of retries (ending outcome)
 
 -- what an outcome says of a site's counts of faults
-abbrev pub Causes : Outcome → Seen → Seen → Type 0
-Causes outcome old new = Counts (cause_of (ending outcome)) old.faults new.faults
+abbrev pub Causes : ℕ → Outcome → Seen → Seen → Type 0
+Causes retries outcome old new = Counts (cause_of retries (ending outcome)) old.faults new.faults
+
+-- a fault of a side behind so many failures, where it is one of the volume
+abbrev pub FailedBy : ℕ → Outcome → Seen → Seen → Type 0
+FailedBy n (SiteFault side) old new = RoseBy n (old.faults (part_for side)) (new.faults (part_for side))
+FailedBy n other old new = Unit {0}
+
+-- and of how the clock waited meanwhile
+abbrev pub WaitsFor : ℕ → ℕ → Outcome → Seen → Seen → Paused → Paused → Type 0
+WaitsFor seconds retries outcome old new = Waits seconds (cause_of retries (ending outcome)) old.faults new.faults
 
 -- whether the report's sink failed
 abbrev pub is_unreported : Ending → Bool

@@ -1,6 +1,5 @@
 -- What the words of a run ask for, and why others are refused.
 use Rattle.std.specs.Prelude.{ℕ, List, [], Option, Some, None, Result, Ok, Err, IfOk, IfErr}
-use Rattle.rc_tree.specs.declared.entry.Scan.TheVariants as scan
 use Rattle.rc_job.specs.declared.job.Job.{Job}
 use Rattle.rc_jobfiles.specs.declared.asking.Refused.{Refused}
 use Rattle.rc_jobfiles.specs.declared.asking.Refused.TheVariants as refused
@@ -37,6 +36,6 @@ abbrev pub root_text : Option (List ℕ) → List ℕ
 root_text None = []
 root_text (Some root) = root
 
--- how a site is told the roots of a job
+-- how a site is told the roots of a job, and how it looks at files
 abbrev pub binding_of : Job → ℕ → Binding
-binding_of job moment = record { source = root_text job.source; target = root_text job.target; scan = scan.Size; moment = moment }
+binding_of job moment = record { source = root_text job.source; target = root_text job.target; scan = job.scan; moment = moment }

@@ -2,8 +2,9 @@
 
 ghost use Rattle.std.specs.Prelude.{◌≡◌, ◌⊎◌, ◌+◌, ◌<◌, ◌≤◌, ◌++◌, ◌∷◌, ℕ, true, false, [], None, Some, chars, option_map, IfOk, IfErr, OnOk, min};
 ghost use Rattle.rc_class.specs.Start.{IsPlanOf};
-ghost use Rattle.rc_copy.specs.Copying.{CopiesFiles};
+ghost use Rattle.rc_copy.specs.Copying.{copies_any, CopiesFiles};
 ghost use Rattle.rc_copy.specs.Reading.{wants_of};
+ghost use Rattle.rc_filter.specs.Acts.{copies_bytes};
 ghost use Rattle.rc_jobfiles.specs.Ask.{texts};
 ghost use Rattle.rc_plan.specs.Plan.{limit_in, start_in, AreTrees, IsMadeFor};
 ghost use Rattle.rc_report.specs.Report.{bits_of, report_of, totals_of};
@@ -12,9 +13,10 @@ ghost use Rattle.rc_volume.specs.Faults.{free, last_count, RoseBy};
 ghost use Rattle.rc_volume.specs.Frames.{Binds, IsBound, Looks};
 ghost use Rattle.rc_volume.specs.Log.{LogsOn};
 ghost use Rattle.rc_volume.specs.Streams.{AppendsFront};
+ghost use Rattle.rc_volume.specs.Waits.{Waits};
 ghost use Rattle.rc_run.specs.Answers.{is_empty, site_refusal, start_refusal, unplanned, Answers, AreBitsOf, IsExpected, IsNamed, IsOpened, IsSilentBefore, RunLeaves, Sends};
 ghost use Rattle.rc_run.specs.Goal.{items_at, read_by};
-ghost use Rattle.rc_run.specs.Outcome.{at_copies, at_end, at_limits, at_listing, at_record, at_report, at_roots, cause_of, ending, finished, first_step, last_step, run_cause, Causes, CausesInSink, EndsAt, IfDone, IsOrNoMemory};
+ghost use Rattle.rc_run.specs.Outcome.{at_copies, at_end, at_limits, at_listing, at_record, at_report, at_roots, cause_of, ending, finished, first_step, last_step, run_cause, Causes, CausesInSink, EndsAt, IfDone, IsOrNoMemory, FailedBy, WaitsFor};
 ghost use Rattle.rc_run.specs.Under.{IsLasting};
 ghost use Rattle.rc_run.specs.Words.{asked, binding_of, root_text, IfAccepted, IfRefused};
 
@@ -26,7 +28,7 @@ use rc_filter::plans_have_the_planned_items;
 use rc_job::Job;
 use rc_plan::{PlanErr, make_plan};
 use rc_report::{bits, count_totals, report_to};
-use rc_tree::{Moment, Scan, Text};
+use rc_tree::{Moment, Text};
 use rc_volume::{BindErr, Clock, JobStore, Sink, SinkErr, Site, SiteErr};
 use std::alloc::Global;
 
@@ -42,6 +44,8 @@ pub struct Ended<S> {
 /// The words are the two roots and switches behind them. Where the site tells its trees, `Done` says that both are now
 /// the goals of the trees at the start, at every key, and that the report and the bits are those of the same decisions.
 /// Each fault comes only where the count of its part rose in this call. Words that are refused touch nothing.
+///
+/// A listing, and what makes directories and gives properties, is tried again as often as the job says; a copy is not.
 pub fn mirror_alone<S: Site, J: JobStore, K: Sink, C: Clock>(
     alloc: Global,
     words: &[String],
@@ -60,7 +64,11 @@ pub fn mirror_alone<S: Site, J: JobStore, K: Sink, C: Clock>(
     // Words that are accepted: what is answered, and why.
     ensures answers { IfAccepted (texts words.now) (λ job.
         Answers S.tells job (S.view site).told (C.last clock.new) result.outcome) }
-    ensures cause { Causes result.outcome (S.view site) (S.view result.site) }
+    ensures cause { IfAccepted (texts words.now) (λ job.
+        Causes job.retries result.outcome (S.view site) (S.view result.site)) }
+    ensures tried { S.tells ≡ true → IfAccepted (texts words.now) (λ job.
+        copies_any (items_at job (S.view site).told (C.last clock.new)) ≡ false →
+        FailedBy (job.retries + 1) result.outcome (S.view site) (S.view result.site)) }
     ensures sink_cause { CausesInSink result.outcome (K.faults sink.old) (K.faults sink.new) }
     ensures complete { S.tells ≡ true →
         ((part : Part) →
@@ -104,12 +112,16 @@ pub fn mirror_alone<S: Site, J: JobStore, K: Sink, C: Clock>(
         IsSilentBefore (K.received sink.old) (K.received sink.new)
         job (C.last clock.new) (S.view site).told (S.view result.site).told) }
 
-    // The clock is read once behind the words, and never waited by.
+    // The clock is read once behind the words. It waits before a retry alone, the seconds of the job.
     ensures clock { C.tells ≡ true → C.always clock.new ≡ C.always clock.old }
     ensures read { (C.reads clock.new ≡ min (C.reads clock.old + 1) last_count)
         ⊎ ((C.reads clock.new ≡ C.reads clock.old)
         × (first_step (ending result.outcome) < at_roots)) }
-    ensures no_pause { C.pauses clock.new ≡ C.pauses clock.old }
+    ensures waits { IfAccepted (texts words.now) (λ job.
+        WaitsFor job.wait job.retries result.outcome (S.view site) (S.view result.site)
+        (C.paused clock.old) (C.paused clock.new)) }
+    ensures no_pause { IfAccepted (texts words.now) (λ job.
+        job.retries ≡ 0 → C.paused clock.new ≡ C.paused clock.old) }
 {
     let mut site = site;
     let _ = jobs;
@@ -132,7 +144,10 @@ fn run<S: Site, K: Sink, C: Clock>(
 ) -> Outcome
     ensures answers { Answers S.tells job.now
         (S.view site.old).told (C.last clock.new) result }
-    ensures cause { Causes result (S.view site.old) (S.view site.new) }
+    ensures cause { Causes job.now.retries result (S.view site.old) (S.view site.new) }
+    ensures tried { S.tells ≡ true →
+        copies_any (items_at job.now (S.view site.old).told (C.last clock.new)) ≡ false →
+        FailedBy (job.now.retries + 1) result (S.view site.old) (S.view site.new) }
     ensures sink_cause { CausesInSink result (K.faults sink.old) (K.faults sink.new) }
     ensures leaves { S.tells ≡ true → RunLeaves job.now (C.last clock.new)
         (S.view site.old).told (S.view site.new).told result }
@@ -161,7 +176,9 @@ fn run<S: Site, K: Sink, C: Clock>(
         job.now (C.last clock.new) (S.view site.old).told (S.view site.new).told }
     ensures clock { C.tells ≡ true → C.always clock.new ≡ C.always clock.old }
     ensures read { C.reads clock.new ≡ min (C.reads clock.old + 1) last_count }
-    ensures no_pause { C.pauses clock.new ≡ C.pauses clock.old }
+    ensures waits { WaitsFor job.now.wait job.now.retries result (S.view site.old) (S.view site.new)
+        (C.paused clock.old) (C.paused clock.new) }
+    ensures no_pause { job.now.retries ≡ 0 → C.paused clock.new ≡ C.paused clock.old }
 {
     let moment = match start(alloc, job, site, clock) {
         Ok(moment) => moment,
@@ -181,7 +198,8 @@ fn start<S: Site, C: Clock>(
     site: &mut S,
     clock: &mut C,
 ) -> Result<Moment, Outcome>
-    ensures frame { Binds S.tells (run_cause result) (S.view site.old) (S.view site.new) }
+    ensures frame { Binds S.tells (run_cause job.now.retries result)
+        (S.view site.old) (S.view site.new) }
     ensures bound { IsBound result (binding_of job.now (C.last clock.new))
         (S.view site.old).bound (S.view site.new).bound }
     ensures named { IfErr result (λ e. at_roots < first_step (ending e) →
@@ -194,12 +212,16 @@ fn start<S: Site, C: Clock>(
     ensures moment { IfOk result (λ moment. moment ≡ C.last clock.new) }
     ensures clock { C.tells ≡ true → C.always clock.new ≡ C.always clock.old }
     ensures read { C.reads clock.new ≡ min (C.reads clock.old + 1) last_count }
-    ensures no_pause { C.pauses clock.new ≡ C.pauses clock.old }
+    ensures no_pause { C.paused clock.new ≡ C.paused clock.old }
 {
     match bind(alloc, job, site, clock) {
-        Ok(moment) => match expect_no_record(alloc, site) {
-            Ok(()) => Ok(moment),
-            Err(e) => Err(e),
+        Ok(moment) => match site.record_len(alloc) {
+            Ok(0) => Ok(moment),
+            Ok(_) => Err(Outcome::NotYet {
+                what: Unbuilt::Record,
+            }),
+            Err(SiteErr::Failed) => Err(Outcome::RecordFault),
+            Err(SiteErr::NoMemory) => Err(Outcome::NoMemory),
         },
         Err(e) => Err(e),
     }
@@ -212,18 +234,19 @@ fn bind<S: Site, C: Clock>(
     site: &mut S,
     clock: &mut C,
 ) -> Result<Moment, Outcome>
-    ensures frame { Binds S.tells (run_cause result) (S.view site.old) (S.view site.new) }
+    ensures frame { Binds S.tells (run_cause job.now.retries result)
+        (S.view site.old) (S.view site.new) }
     ensures bound { IsBound result (binding_of job.now (C.last clock.new))
         (S.view site.old).bound (S.view site.new).bound }
     ensures ends { IfErr result (λ e. EndsAt at_roots at_roots ⊥ (ending e)) }
     ensures moment { IfOk result (λ moment. moment ≡ C.last clock.new) }
     ensures clock { C.tells ≡ true → C.always clock.new ≡ C.always clock.old }
     ensures read { C.reads clock.new ≡ min (C.reads clock.old + 1) last_count }
-    ensures no_pause { C.pauses clock.new ≡ C.pauses clock.old }
+    ensures no_pause { C.paused clock.new ≡ C.paused clock.old }
 {
     let moment = clock.moment();
     let (source, target) = (root_text(&job.source), root_text(&job.target));
-    match site.bind(alloc, source, target, Scan::Size, moment) {
+    match site.bind(alloc, source, target, job.scan, moment) {
         Ok(()) => Ok(Moment::new(moment)),
         Err(BindErr::Failed { side }) => Err(Outcome::RootFault { side }),
         Err(BindErr::NoMemory) => Err(Outcome::NoMemory),
@@ -240,32 +263,23 @@ fn root_text(root: &Option<Text>) -> &str
     }
 }
 
-fn expect_no_record<S: Site>(alloc: Global, site: &mut S) -> Result<(), Outcome>
-    ensures frame { Looks S.tells (run_cause result) (S.view site.old) (S.view site.new) }
-    ensures no_record { S.tells ≡ true → OnOk result ((S.view site.old).told.notes ≡ []) }
-    ensures ends { IfErr result (λ e. EndsAt at_record at_record
-        ((e ≡ Outcome.NotYet Unbuilt.Record)
-        × (S.tells ≡ true → is_empty (S.view site.old).told.notes ≡ false)) (ending e)) }
-{
-    match site.record_len(alloc) {
-        Ok(0) => Ok(()),
-        Ok(_) => Err(Outcome::NotYet {
-            what: Unbuilt::Record,
-        }),
-        Err(SiteErr::Failed) => Err(Outcome::RecordFault),
-        Err(SiteErr::NoMemory) => Err(Outcome::NoMemory),
-    }
-}
-
 // Decides all keys.
 fn plan<S: Site, C: Clock>(
     alloc: Global,
     site: &mut S,
     job: &Job,
     moment: Moment,
-    clock: &C,
+    clock: &mut C,
 ) -> Result<Plan, Outcome>
-    ensures frame { Looks S.tells (run_cause result) (S.view site.old) (S.view site.new) }
+    ensures frame { Looks S.tells (run_cause job.now.retries result)
+        (S.view site.old) (S.view site.new) }
+    ensures waits { Waits job.now.wait (run_cause job.now.retries result)
+        (S.view site.old).faults (S.view site.new).faults
+        (C.paused clock.old) (C.paused clock.new) }
+    ensures no_pause { job.now.retries ≡ 0 → C.paused clock.new ≡ C.paused clock.old }
+    ensures clock { C.tells ≡ true → C.always clock.new ≡ C.always clock.old }
+    ensures last { C.last clock.new ≡ C.last clock.old }
+    ensures unread { C.reads clock.new ≡ C.reads clock.old }
     ensures plan { S.tells ≡ true →
         IfOk result (IsPlanOf (start_in job.now (S.view site.old).told)) }
     ensures trees { S.tells ≡ true → OnOk result (AreTrees (S.view site.old).told) }
@@ -307,15 +321,17 @@ fn carry_out<S: Site, K: Sink, C: Clock>(
     requires made { IsMadeFor job.now plan.now.moment plan.now }
     requires no_record { S.tells ≡ true → (S.view site.old).told.notes ≡ [] }
 
-    ensures frame { CopiesFiles S.tells (cause_of (ending result))
+    ensures frame { CopiesFiles S.tells (cause_of job.now.retries (ending result))
         (S.view site.old) (S.view site.new) }
     ensures sink_cause { CausesInSink result (K.faults sink.old) (K.faults sink.new) }
     ensures ends { EndsAt at_copies at_end ⊥ (ending result) }
+    ensures tried { copies_any plan.now.items ≡ false →
+        FailedBy (job.now.retries + 1) result (S.view site.old) (S.view site.new) }
     ensures leaves { S.tells ≡ true → RunLeaves job.now plan.now.moment
         (S.view site.old).told (S.view site.new).told result }
     ensures lasting { S.tells ≡ true → at_report ≤ first_step (ending result) →
         IsLasting plan.now.items (S.view site.new) }
-    ensures opened { IsOpened result (wants_of 0 job.now.copy.data_bytes plan.now.items)
+    ensures opened { IsOpened result (wants_of 0 (copies_bytes job.now) plan.now.items)
         (S.view site.old).opened (S.view site.new).opened }
     ensures items { S.tells ≡ true →
         plan.now.items ≡ items_at job.now (S.view site.old).told plan.now.moment }
@@ -333,7 +349,9 @@ fn carry_out<S: Site, K: Sink, C: Clock>(
     ensures clock { C.tells ≡ true → C.always clock.new ≡ C.always clock.old }
     ensures last { C.last clock.new ≡ C.last clock.old }
     ensures unread { C.reads clock.new ≡ C.reads clock.old }
-    ensures no_pause { C.pauses clock.new ≡ C.pauses clock.old }
+    ensures waits { WaitsFor job.now.wait job.now.retries result (S.view site.old) (S.view site.new)
+        (C.paused clock.old) (C.paused clock.new) }
+    ensures no_pause { job.now.retries ≡ 0 → C.paused clock.new ≡ C.paused clock.old }
 {
     plans_have_the_planned_items();
     match change_trees(alloc, site, job, plan, clock) {
@@ -346,7 +364,7 @@ fn carry_out<S: Site, K: Sink, C: Clock>(
 fn write_report<K: Sink>(alloc: Global, sink: &mut K, plan: &Plan) -> Outcome
     ensures sink_cause { CausesInSink result (K.faults sink.old) (K.faults sink.new) }
     ensures ends { EndsAt at_report at_end ⊥ (ending result) }
-    ensures no_fault { cause_of (ending result) ≡ free }
+    ensures no_fault { (retries : ℕ) → cause_of retries (ending result) ≡ free }
     ensures bits { IfDone result (λ bits _. bits ≡ bits_of (totals_of plan.now.items)) }
     ensures moment { IfDone result (λ _ moment. moment ≡ plan.now.moment) }
     ensures whole { K.tells ≡ true → ending result ≡ finished →

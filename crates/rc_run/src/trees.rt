@@ -1,12 +1,14 @@
 //! The trees of a run are changed: directories are made, then files copied, then properties given.
 
-ghost use Rattle.std.specs.Prelude.{◌≡◌, true, IfErr, OnOk};
+ghost use Rattle.std.specs.Prelude.{◌≡◌, ◌+◌, true, false, IfErr, OnOk};
 ghost use Rattle.rc_class.specs.Start.{IsPlanOf};
-ghost use Rattle.rc_copy.specs.Copying.{AddsWants, CopiesFiles};
+ghost use Rattle.rc_copy.specs.Copying.{copies_any, AddsWants, CopiesFiles};
 ghost use Rattle.rc_copy.specs.Reading.{wants_of};
+ghost use Rattle.rc_filter.specs.Acts.{copies_bytes};
 ghost use Rattle.rc_plan.specs.Plan.{start_in, AreTrees, IsMadeFor};
+ghost use Rattle.rc_volume.specs.Waits.{Waits};
 ghost use Rattle.rc_run.specs.Answers.{copying_of, uncopied, unfinished};
-ghost use Rattle.rc_run.specs.Outcome.{at_copies, ending, run_cause, EndsAt};
+ghost use Rattle.rc_run.specs.Outcome.{at_copies, ending, run_cause, EndsAt, FailedBy};
 ghost use Rattle.rc_run.specs.Under.{AreUnderWay, HaveGoals, IsLasting};
 
 use crate::Outcome;
@@ -31,8 +33,11 @@ pub(crate) fn change_trees<S: Site, C: Clock>(
     requires trees { S.tells ≡ true → AreTrees (S.view site.old).told }
     requires made { IsMadeFor job.now plan.now.moment plan.now }
 
-    ensures frame { CopiesFiles S.tells (run_cause result) (S.view site.old) (S.view site.new) }
+    ensures frame { CopiesFiles S.tells (run_cause job.now.retries result)
+        (S.view site.old) (S.view site.new) }
     ensures ends { IfErr result (λ e. EndsAt at_copies at_copies ⊥ (ending e)) }
+    ensures tried { copies_any plan.now.items ≡ false → IfErr result
+        (λ e. FailedBy (job.now.retries + 1) e (S.view site.old) (S.view site.new)) }
     ensures goals { S.tells ≡ true → OnOk result
         (HaveGoals (copying_of job.now plan.now.moment) plan.now.items
         (S.view site.old).told (S.view site.new).told.target) }
@@ -40,12 +45,15 @@ pub(crate) fn change_trees<S: Site, C: Clock>(
         AreUnderWay (copying_of job.now plan.now.moment) plan.now.items
         (S.view site.old).told (S.view site.new).told.target }
     ensures lasting { S.tells ≡ true → OnOk result (IsLasting plan.now.items (S.view site.new)) }
-    ensures opened { AddsWants result (wants_of 0 job.now.copy.data_bytes plan.now.items)
+    ensures opened { AddsWants result (wants_of 0 (copies_bytes job.now) plan.now.items)
         (S.view site.old).opened (S.view site.new).opened }
     ensures clock { C.tells ≡ true → C.always clock.new ≡ C.always clock.old }
     ensures last { C.last clock.new ≡ C.last clock.old }
     ensures unread { C.reads clock.new ≡ C.reads clock.old }
-    ensures no_pause { C.pauses clock.new ≡ C.pauses clock.old }
+    ensures waits { Waits job.now.wait (run_cause job.now.retries result)
+        (S.view site.old).faults (S.view site.new).faults
+        (C.paused clock.old) (C.paused clock.new) }
+    ensures no_pause { job.now.retries ≡ 0 → C.paused clock.new ≡ C.paused clock.old }
 {
     decided_items();
     a_plan_fits();
@@ -56,9 +64,17 @@ pub(crate) fn change_trees<S: Site, C: Clock>(
         with_bytes: plan.with_bytes,
         moment: plan.moment,
     };
-    match make_dirs(alloc, site, plan, 0, 0, clock) {
+    match make_dirs(alloc, site, plan, job.retries, job.wait, clock) {
         Ok(()) => match copy_files(alloc, site, &copying, plan.items.items()) {
-            Ok(()) => match props_pass(alloc, site, plan, rules(job), 0, 0, clock) {
+            Ok(()) => match props_pass(
+                alloc,
+                site,
+                plan,
+                rules(job),
+                job.retries,
+                job.wait,
+                clock,
+            ) {
                 Ok(()) => Ok(()),
                 Err(e) => Err(unfinished(e)),
             },

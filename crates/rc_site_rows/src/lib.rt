@@ -1,11 +1,7 @@
-//! Worked rows of what a stop may leave, of reports and of runs, over sites in memory and over such on which a call
-//! fails. They stand apart from the crates that they call, which are so proved once and not once more for their tests.
+//! Worked rows of sites in memory and of what a stop may leave of them. They stand apart from the crates that they call,
+//! which are so proved once and not once more for their tests.
 #![tactic(auto)]
 
-#[cfg(test)]
-mod reports;
-#[cfg(test)]
-mod runs;
 #[cfg(test)]
 mod sites;
 pub mod stops;

@@ -1,15 +1,14 @@
 //! Sites in memory: what they list, keep, log and leave where they stop; and the streams and stores beside them.
 
-ghost use Rattle.std.specs.Prelude.{◌≡◌, true, None, IsTrue, IfOk, All, length, map};
+ghost use Rattle.std.specs.Prelude.{◌≡◌, true, None, IsTrue, IfOk, length, map};
 ghost use Rattle.std.specs.FinMap.{entries};
-ghost use Rattle.std.specs.declared.cmp.Ordering.TheVariants.{Less};
-ghost use Rattle.rc_tree.specs.Path.{key_of, key_cmp};
+ghost use Rattle.rc_tree.specs.Path.{key_of};
 ghost use Rattle.rc_tree.specs.Tree.{IsDirectory};
 ghost use Rattle.rc_volume.specs.Site.{IsEnd, tree_in};
 
+use rc_fixture::put_entry;
 use rc_mem::{
-    EntryCall, FixedClock, MemInput, MemJobs, MemSink, MemSite, NotesCall, SharedBytes, Tree,
-    TreeNode, WideSite,
+    EntryCall, FixedClock, MemInput, MemJobs, MemSink, MemSite, NotesCall, Tree, WideSite,
 };
 use rc_stop::StopSite;
 use rc_tree::{Attr, Kind, Moment, Name, NoMemory, Path, Props, Security, Text};
@@ -44,40 +43,6 @@ fn is_directory(alloc: Global, tree: &Tree, path: &Path) -> Result<bool, NoMemor
     }
 }
 
-fn is_above_all(tree: &Tree, path: &Path) -> bool
-    ensures { IsTrue result
-        → All (λ entry. key_cmp entry.0 (key_of path.now) ≡ Less) (entries tree.now) }
-{
-    for node in tree.nodes() {
-        if !node.path.cmp(path).is_lt() {
-            return false;
-        }
-    }
-    true
-}
-
-// Adds an entry at the end, where it may stand there.
-fn add(alloc: Global, tree: &mut Tree, path: &str, kind: Kind, bytes: &[u8]) -> Result<(), Fail> {
-    let path = Path::read(alloc, path)?;
-    if kind == Kind::Dir && !bytes.is_empty() {
-        return Err("a directory with bytes")?;
-    }
-    if !tree.has_parent(alloc, &path)? || !is_above_all(tree, &path) {
-        return Err("no place for an entry")?;
-    }
-    let bytes = SharedBytes::new(alloc, bytes.to_vec(alloc)?)?;
-    tree.add(
-        alloc,
-        TreeNode {
-            path,
-            kind,
-            bytes,
-            props: written_at_seven(alloc),
-        },
-    )?;
-    Ok(())
-}
-
 // A site with the files a and c, and two directories between them, as its source.
 fn sample(alloc: Global) -> Result<StopSite, Fail> {
     let mut tree = Tree::new(alloc);
@@ -90,7 +55,7 @@ fn sample(alloc: Global) -> Result<StopSite, Fail> {
         ("B2", Kind::Dir, b"".as_slice()),
         ("c", Kind::File, b"".as_slice()),
     ] {
-        add(alloc, &mut tree, path, kind, bytes)?;
+        put_entry(alloc, &mut tree, path, kind, bytes, written_at_seven(alloc))?;
     }
     let site = StopSite::new(alloc, tree, Tree::new(alloc), b"notes".to_vec(alloc)?)?;
     Ok(site)
@@ -372,7 +337,7 @@ fn take<I: Input>(alloc: Global, input: &mut I) -> Result<Vec<u8>, Fail> {
 }
 
 fn pause_and_ask<C: Clock>(clock: &mut C) -> u64 {
-    clock.pause(1);
+    clock.pause(7);
     clock.moment()
 }
 
@@ -387,7 +352,7 @@ fn streams_bytes(rt: HostRuntime) -> Result<(), Fail> {
     assert_eq!(rt; taken.as_slice(), b"abc|d||||||||".as_slice());
     let mut clock = FixedClock::new(9);
     assert_eq!(rt; pause_and_ask(&mut clock), 9);
-    assert_eq!(rt; (clock.reads(), clock.pauses()), (1, 1));
+    assert_eq!(rt; (clock.reads(), clock.pauses(), clock.waited()), (1, 1, 7));
     Ok(())
 }
 

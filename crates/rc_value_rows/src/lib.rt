@@ -11,6 +11,8 @@ mod dates;
 #[cfg(test)]
 mod decisions;
 #[cfg(test)]
+mod filters;
+#[cfg(test)]
 mod jobs;
 #[cfg(test)]
 mod names;

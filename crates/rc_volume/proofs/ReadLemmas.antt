@@ -1,5 +1,5 @@
 -- What a call tells that it changed is a step of that call: so what reads stays something that a stop may leave.
-use Rattle.std.proofs.Common.{◌≡◌, ◌⊎◌, ◌<◌, ◌≤◌, ℕ, ◌+◌, ◌-◌, min, max, arith, List, [], ◌∷◌, ◌++◌, length, take, drop, get_or, replicate, Option, Some, None, Result, Ok, Err, refl, sym, ap, subst, ◌∙◌, inl, inr, length-append}
+use Rattle.std.proofs.Common.{◌≡◌, ◌<◌, ◌≤◌, ℕ, ◌+◌, ◌-◌, min, max, arith, List, ◌++◌, length, take, drop, get_or, replicate, Option, Some, None, Result, Ok, Err, refl, sym, ap, subst, ◌∙◌, inl, inr, length-append}
 use Rattle.std.specs.Prelude.{slice_get, IsSomeAnd, option_map}
 use Rattle.std.proofs.lemmas.List.{get_or-take, get_or-drop, get_or_append_left, get_or-append_right, length-take, length-drop, length-replicate}
 use Rattle.std.proofs.lemmas.Option.{slice_get-get_or}
@@ -8,9 +8,9 @@ use Rattle.rc_tree.specs.declared.props.Props.{Props}
 use Rattle.rc_tree.specs.Tree.{Node}
 use Rattle.rc_volume.specs.declared.site.SiteErr.{SiteErr}
 use Rattle.rc_volume.specs.declared.site.SiteErr.TheVariants.{Failed, NoMemory}
-use Rattle.rc_volume.specs.Images.{AreMixed, Half, HasBytes, HasProps, IsMade, StepsNotes}
+use Rattle.rc_volume.specs.Images.{Half, IsMade, StepsNotes}
 use Rattle.rc_volume.specs.Log.{make, put, resize, set_props, remove, write, cut}
-use Rattle.rc_volume.specs.Site.{Cuts, IsCutBytes, IsHalfResized, IsTorn, IsTornBytes, Makes, Maybe, Puts, Removes, Resizes, SetsProps, Turns, Writes, resized, with_props, written_at}
+use Rattle.rc_volume.specs.Site.{Cuts, IsCutBytes, IsTornBytes, Makes, Maybe, Puts, Removes, Resizes, SetsProps, Turns, Writes, resized, with_props, written_at}
 
 -- Bytes
 

@@ -1,16 +1,13 @@
 -- The frames of a site's calls: what each leaves as it was, of all that contracts see.
 use Rattle.std.specs.Prelude.{◌≡◌, ◌≢◌, ◌⊎◌, ℕ, ◌+◌, ◌≤◌, Bool, true, min, List, [], ◌∷◌, ◌++◌, Result, Ok, Err}
-use Rattle.std.specs.FinMap.{get}
 use Rattle.rc_volume.specs.Faults.{Cause, Counts, last_count, part_for}
 use Rattle.rc_volume.specs.Log.{LogsOn}
 use Rattle.rc_volume.specs.Site.{Told, Seen, Change, node_at, tree_of, other_side}
 use Rattle.rc_volume.specs.declared.binding.Binding.{Binding}
 use Rattle.rc_volume.specs.declared.want.Want.{Want}
-use Rattle.rc_volume.specs.declared.site.BindErr.{BindErr}
 use Rattle.rc_volume.specs.declared.site.Part.{Part}
 use Rattle.rc_volume.specs.declared.site.Part.TheVariants as part
 use Rattle.rc_volume.specs.declared.site.Side.{Side}
-use Rattle.rc_volume.specs.declared.site.SiteErr.{SiteErr}
 
 -- a call that only looks
 pub record Looks (tells : Bool) (cause : Cause) (old new : Seen) : Type 0 where

@@ -1,7 +1,7 @@
 -- What a stop may leave of a site, by the calls in its log. Each call may be done, half done or not done, also where it
 -- failed, as long as its part is not synced; a sync that succeeds leaves only what reads. Of each part a stop may leave
 -- something else: what it leaves of one goes with what it leaves of the others.
-use Rattle.std.specs.Prelude.{◌≡◌, ◌≢◌, ◌⊎◌, ℕ, ◌+◌, ◌<◌, ◌≤◌, List, [], ◌∷◌, Option, Some, None, IsSomeAnd, length, take}
+use Rattle.std.specs.Prelude.{◌≡◌, ◌≢◌, ◌⊎◌, ℕ, ◌≤◌, List, [], ◌∷◌, Option, Some, None, IsSomeAnd, length, take}
 use Rattle.std.specs.FinMap.{get}
 use Rattle.rc_tree.specs.declared.props.Props.{Props}
 use Rattle.rc_tree.specs.Tree.{Node, Tree, IsTree}

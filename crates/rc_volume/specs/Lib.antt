@@ -5,3 +5,4 @@ pub mod Log
 pub mod Reading
 pub mod Site
 pub mod Streams
+pub mod Waits

@@ -1,5 +1,5 @@
 -- What a site tells, and what stands at a key of it before and after a call.
-use Rattle.std.specs.Prelude.{◌≡◌, ◌≢◌, ◌⊎◌, ℕ, ◌+◌, ◌-◌, ◌<◌, ◌≤◌, min, max, List, [], ◌∷◌, ◌++◌, Option, Some, None, option_map, length, take, drop, replicate, All, IsSomeAnd, MatchOption, Result, Ok, Err, slice_get}
+use Rattle.std.specs.Prelude.{◌≡◌, ◌⊎◌, ℕ, ◌+◌, ◌-◌, ◌<◌, ◌≤◌, min, max, List, [], ◌∷◌, ◌++◌, Option, Some, None, option_map, length, take, drop, replicate, All, IsSomeAnd, MatchOption, Result, Ok, Err, slice_get}
 use Rattle.std.specs.FinMap.{get}
 use Rattle.std.specs.declared.cmp.Ordering.TheVariants.{Less}
 use Rattle.rc_tree.specs.declared.attr.Kind.TheVariants.{File, Dir}
@@ -7,7 +7,7 @@ use Rattle.rc_tree.specs.declared.props.Props.{Props}
 use Rattle.rc_tree.specs.declared.entry.Entry.{Entry}
 use Rattle.rc_tree.specs.Attr.{no_attr}
 use Rattle.rc_tree.specs.Name.{folded}
-use Rattle.rc_tree.specs.Path.{key_of, last_name, parent_of, name_cmp}
+use Rattle.rc_tree.specs.Path.{key_of, parent_of, name_cmp}
 use Rattle.rc_tree.specs.Tree.{Node, Tree, IsDirectory}
 use Rattle.rc_volume.specs.Log.{Event}
 use Rattle.rc_volume.specs.Reading.{Opens, part_of}

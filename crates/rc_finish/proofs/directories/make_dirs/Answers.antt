@@ -6,6 +6,7 @@ use Rattle.rc_class.specs.declared.item.Item.{Item}
 use Rattle.rc_finish.specs.Calls.{LogsCalls, Makes}
 use Rattle.rc_finish.specs.Passes.{has_any, is_make, AreFit}
 use Rattle.rc_finish.proofs.PassLemmas.{pass_synced, side_synced}
+use Rattle.rc_finish.proofs.WaitLemmas.{waits_behind}
 use Rattle.rc_finish.proofs.directories.make_dirs.Goals as goal
 
 pub make_each-requires-clause-fit : goal.make_each-requires-clause-fit
@@ -14,6 +15,9 @@ make_each-requires-clause-fit g c κs within tells =
 
 pub returns-in-Ok-clause-frame : goal.returns-in-Ok-clause-frame
 returns-in-Ok-clause-frame g c = side_synced _ _ _ _ _ _ c.in-Ok.ensures.frame c.sync.ensures.frame
+
+pub returns-in-Ok-clause-waits : goal.returns-in-Ok-clause-waits
+returns-in-Ok-clause-waits g c = waits_behind _ _ _ _ _ _ _ _ c.in-Ok.ensures.waits c.sync.ensures.waits
 
 pub returns-in-Ok-clause-durable : goal.returns-in-Ok-clause-durable
 returns-in-Ok-clause-durable g c = λ tells.

@@ -6,6 +6,7 @@ use Rattle.rc_finish.specs.Passes.{made, HasPassed}
 use Rattle.rc_finish.proofs.ItemKeys.{contains_item, front_found, front_grown, front_missing, own_item}
 use Rattle.rc_finish.proofs.MakeLemmas.{makable}
 use Rattle.rc_finish.proofs.PassLemmas.{calls_of, calls_then, pass_more, passing, passing_failed, side_then}
+use Rattle.rc_finish.proofs.WaitLemmas.{waits_behind, waits_not}
 use Rattle.rc_finish.proofs.directories.make_each.Goals as goal
 
 pub make_item-requires-clause-place : goal.make_item-requires-clause-place
@@ -14,6 +15,18 @@ make_item-requires-clause-place g c κs within tells own =
     let i = c.loop-item.item-index in
     makable items i c.item-item.result (g.S.Site.view c.args.site.now).told _ c.requires.rising (c.requires.fit tells) c.loop-item-test.true c.item-item.is (c.loop-item.invariant.made tells)
     (subst (λ (x : Item). 0 < length x.path) (sym c.item-item.is) (c.requires.below i c.item-item.result c.loop-item-test.true)) own
+
+pub loop-item-init : goal.loop-item-init
+loop-item-init g c = record {
+  frame = search rules;
+  made = search rules;
+  calls = search rules;
+  always = search rules;
+  last = search rules;
+  unread = search rules;
+  no_pause = search rules;
+  waits = waits_not _ _ _;
+}
 
 pub loop-item-preserved : goal.loop-item-preserved
 loop-item-preserved g c =
@@ -28,10 +41,14 @@ loop-item-preserved g c =
       last = search rules;
       unread = search rules;
       no_pause = search rules;
+      waits = waits_behind _ _ _ _ _ _ _ _ c.loop-item.invariant.waits c.in-Ok.ensures.waits;
     }
 
 pub returns-in-Err-clause-frame : goal.returns-in-Err-clause-frame
 returns-in-Err-clause-frame g c = side_then _ _ _ _ (Err _) _ _ _ c.loop-item.invariant.frame c.in-Err.ensures.frame
+
+pub returns-in-Err-clause-waits : goal.returns-in-Err-clause-waits
+returns-in-Err-clause-waits g c = waits_behind _ _ _ _ _ _ _ _ c.loop-item.invariant.waits c.in-Err.ensures.waits
 
 pub returns-in-Err-clause-between : goal.returns-in-Err-clause-between
 returns-in-Err-clause-between g c = λ tells.

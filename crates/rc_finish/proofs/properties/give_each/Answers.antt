@@ -1,14 +1,32 @@
-use Rattle.std.proofs.Common.{◌≡◌, ℕ, true, ◌+◌, ◌-◌, ◌<◌, Ok, Err, drop, length, ap, subst, ◌∙◌, arith, rules}
+use Rattle.std.proofs.Common.{◌≡◌, ℕ, true, ◌+◌, ◌-◌, ◌<◌, List, Ok, Err, drop, length, refl, sym, ap, subst, ◌∙◌, arith, rules}
+use Rattle.std.proofs.Math.Seq.{drop-length}
 use Rattle.std.specs.FinMap.{get}
 use Rattle.rc_tree.specs.Path.{key_of}
 use Rattle.rc_tree.specs.Tree.{Tree}
+use Rattle.rc_class.specs.declared.item.Item.{Item}
 use Rattle.rc_volume.specs.Site.{Maybe}
 use Rattle.rc_finish.specs.Calls.{Gives}
 use Rattle.rc_finish.specs.Passes.{given, HasPassed, IsNow}
 use Rattle.rc_finish.proofs.GiveLemmas.{gives_at}
 use Rattle.rc_finish.proofs.ItemKeys.{back_found, back_grown, back_missing, contains_item, own_item}
 use Rattle.rc_finish.proofs.PassLemmas.{calls_of, calls_then, pass_more, passing, passing_failed, side_then, still}
+use Rattle.rc_finish.proofs.WaitLemmas.{waits_behind, waits_not}
 use Rattle.rc_finish.proofs.properties.give_each.Goals as goal
+
+pub loop-left-init : goal.loop-left-init
+loop-left-init g c = record {
+  within = search rules;
+  frame = search rules;
+  has_passed = λ tells.
+      let start = (g.S.Site.view c.args.site.now).told in
+      subst (λ (rest : List Item). HasPassed (given c.args.giving.now.rules c.args.giving.now.moment) rest start start.target) (sym (drop-length c.args.items.now)) (λ key. refl);
+  calls = search rules;
+  always = search rules;
+  last = search rules;
+  unread = search rules;
+  no_pause = search rules;
+  waits = waits_not _ _ _;
+}
 
 pub loop-left-preserved : goal.loop-left-preserved
 loop-left-preserved g c =
@@ -35,10 +53,14 @@ loop-left-preserved g c =
       last = search rules;
       unread = search rules;
       no_pause = search rules;
+      waits = waits_behind _ _ _ _ _ _ _ _ c.loop-left.invariant.waits c.in-Ok.ensures.waits;
     }
 
 pub returns-in-Err-clause-frame : goal.returns-in-Err-clause-frame
 returns-in-Err-clause-frame g c = side_then _ _ _ _ (Err _) _ _ _ c.loop-left.invariant.frame c.in-Err.ensures.frame
+
+pub returns-in-Err-clause-waits : goal.returns-in-Err-clause-waits
+returns-in-Err-clause-waits g c = waits_behind _ _ _ _ _ _ _ _ c.loop-left.invariant.waits c.in-Err.ensures.waits
 
 pub returns-in-Err-clause-between : goal.returns-in-Err-clause-between
 returns-in-Err-clause-between g c = λ tells.

@@ -2,6 +2,7 @@ use Rattle.std.proofs.Common.{◌≡◌, ◌≤◌, true, drop, length}
 use Rattle.rc_volume.specs.declared.site.Side.TheVariants.{Target}
 use Rattle.rc_volume.specs.Faults.{free}
 use Rattle.rc_volume.specs.Frames.{ChangesSide}
+use Rattle.rc_volume.specs.Waits.{Waits}
 use Rattle.rc_finish.specs.Calls.{Gives, LogsCalls}
 use Rattle.rc_finish.specs.Passes.{given, HasPassed}
 use Rattle.rc_finish.proofs.properties.give_each.Given as goal
@@ -15,7 +16,8 @@ invariant-loop-left g l = record {
   always : g.C.Clock.tells ≡ true → g.C.Clock.always l.clock ≡ g.C.Clock.always l.fn.clock;
   last : g.C.Clock.last l.clock ≡ g.C.Clock.last l.fn.clock;
   unread : g.C.Clock.reads l.clock ≡ g.C.Clock.reads l.fn.clock;
-  no_pause : l.giving.tries.retries ≡ 0 → g.C.Clock.pauses l.clock ≡ g.C.Clock.pauses l.fn.clock;
+  waits : Waits l.giving.tries.wait free (g.S.Site.view l.fn.site).faults (g.S.Site.view l.site).faults (g.C.Clock.paused l.fn.clock) (g.C.Clock.paused l.clock);
+  no_pause : l.giving.tries.retries ≡ 0 → g.C.Clock.paused l.clock ≡ g.C.Clock.paused l.fn.clock;
 }
 
 abbrev pub decreases-loop-left : goal.decreases-loop-left

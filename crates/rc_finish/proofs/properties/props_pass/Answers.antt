@@ -6,10 +6,14 @@ use Rattle.rc_class.specs.declared.item.Item.{Item}
 use Rattle.rc_finish.specs.Calls.{Gives, LogsCalls}
 use Rattle.rc_finish.specs.Passes.{given, gives_props, has_any}
 use Rattle.rc_finish.proofs.PassLemmas.{pass_synced, side_synced}
+use Rattle.rc_finish.proofs.WaitLemmas.{waits_behind}
 use Rattle.rc_finish.proofs.properties.props_pass.Goals as goal
 
 pub returns-in-Ok-clause-frame : goal.returns-in-Ok-clause-frame
 returns-in-Ok-clause-frame g c = side_synced _ _ _ _ _ _ c.in-Ok.ensures.frame c.sync.ensures.frame
+
+pub returns-in-Ok-clause-waits : goal.returns-in-Ok-clause-waits
+returns-in-Ok-clause-waits g c = waits_behind _ _ _ _ _ _ _ _ c.in-Ok.ensures.waits c.sync.ensures.waits
 
 pub returns-in-Ok-clause-durable : goal.returns-in-Ok-clause-durable
 returns-in-Ok-clause-durable g c = λ tells.

@@ -7,6 +7,7 @@ use Rattle.rc_volume.specs.Faults.{on}
 use Rattle.rc_volume.specs.Frames.{ChangesAt}
 use Rattle.rc_volume.specs.Log.{changed, set_props}
 use Rattle.rc_volume.specs.Site.{node_at, with_props, Becomes, Maybe}
+use Rattle.rc_volume.specs.Waits.{paused_by}
 use Rattle.rc_finish.specs.Calls.{LogsEach}
 use Rattle.rc_finish.proofs.properties.set.Given as goal
 
@@ -18,5 +19,6 @@ invariant-loop g l = record {
   always : g.C.Clock.tells ≡ true → g.C.Clock.always l.clock ≡ g.C.Clock.always l.fn.clock;
   last : g.C.Clock.last l.clock ≡ g.C.Clock.last l.fn.clock;
   unread : g.C.Clock.reads l.clock ≡ g.C.Clock.reads l.fn.clock;
-  no_pause : l.tries.retries ≡ 0 → g.C.Clock.pauses l.clock ≡ g.C.Clock.pauses l.fn.clock;
+  paused : g.C.Clock.paused l.clock ≡ paused_by l.tries.wait l.counter (g.C.Clock.paused l.fn.clock);
+  no_pause : l.tries.retries ≡ 0 → g.C.Clock.paused l.clock ≡ g.C.Clock.paused l.fn.clock;
 }

@@ -1,6 +1,7 @@
 -- The plan has what every plan of its job has, and is refused by the limit of the planned items.
 use Rattle.std.proofs.Common.{⊎_elim, inl, inr, refl, sym, ap, subst, ◌∙◌}
 use Rattle.rc_class.specs.declared.plan.Plan.{Plan}
+use Rattle.rc_filter.specs.Acts.{copies_bytes}
 use Rattle.rc_plan.specs.Limits.{limit_of}
 use Rattle.rc_plan.specs.Plan.{limit_in, IsMadeFor}
 use Rattle.rc_plan.proofs.Plans.{below_root, limit_so, refuses_so}
@@ -16,7 +17,7 @@ returns-in-Ok-check_limits-clause-made g c =
       with_bytes = refl;
       rising = c.in-Ok.ensures.rising;
       below = below_root items c.in-Ok.ensures.root;
-      limits = ap (limit_of c.args.job.now.copy.data_bytes) (sym c.deref.ensures.value) ∙ c.in-Ok-check_limits.ensures.within;
+      limits = ap (limit_of (copies_bytes c.args.job.now)) (sym c.deref.ensures.value) ∙ ap (λ bytes. limit_of bytes c.deref.result.now) (sym c.copies_bytes.ensures) ∙ c.in-Ok-check_limits.ensures.within;
     })
 
 pub returns-in-Err-clause-refused : goal.returns-in-Err-clause-refused
@@ -29,5 +30,5 @@ returns-in-Err-clause-refused g c = λ tells.
     (λ passed.
     inr (limit_so job told c.args.moment items _ (c.plans_have_the_planned_items.ensures job told.source told.target)
     c.in-Ok.ensures.rising (c.in-Ok.ensures.decided tells)
-    (ap (limit_of job.copy.data_bytes) (sym c.deref.ensures.value) ∙ passed)))
+    (ap (limit_of (copies_bytes job)) (sym c.deref.ensures.value) ∙ ap (λ bytes. limit_of bytes c.deref.result.now) (sym c.copies_bytes.ensures) ∙ passed)))
     c.in-Err.ensures.beyond)

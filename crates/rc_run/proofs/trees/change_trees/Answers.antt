@@ -9,9 +9,10 @@ use Rattle.rc_finish.specs.Passes.{HasPassed, IsPassing, given}
 use Rattle.rc_plan.specs.Plan.{start_in}
 use Rattle.rc_run.specs.declared.outcome.Outcome.{Outcome}
 use Rattle.rc_run.specs.Answers.{copying_of}
-use Rattle.rc_run.specs.Outcome.{cause_of, ending}
+use Rattle.rc_run.specs.Outcome.{cause_of, ending, WaitsFor}
 use Rattle.rc_run.proofs.PassLemmas.{all_under_way, goals_by_passes, making_under_way, none_given}
 use Rattle.rc_run.proofs.RunLemmas.{all_passed, decided_so, given_then_failed, lasting, law_of, made_then_failed, passable, same_copying, small_copies}
+use Rattle.rc_run.proofs.WaitLemmas.{copy_waits, pass_waits, unwaited_free, waits_on_then}
 use Rattle.rc_run.proofs.trees.change_trees.Goals as goal
 
 pub make_dirs-requires-clause-fit : goal.make_dirs-requires-clause-fit
@@ -90,8 +91,8 @@ pub returns-in-Err-props_pass-clause-frame : goal.returns-in-Err-props_pass-clau
 returns-in-Err-props_pass-clause-frame g c =
     let start = g.S.Site.view c.args.site.now in
     let end = g.S.Site.view c.props_pass.new.site in
-    subst (λ (o : Outcome). CopiesFiles g.S.Site.tells (cause_of (ending o)) start end) (sym c.unfinished.ensures)
-    (given_then_failed g.S.Site.tells c.in-Err-props_pass.e _ _ _ _ c.in-Ok.ensures.frame c.in-Ok-copy_files.ensures.frame c.in-Err-props_pass.ensures.frame)
+    subst (λ (o : Outcome). CopiesFiles g.S.Site.tells (cause_of c.args.job.now.retries (ending o)) start end) (sym c.unfinished.ensures)
+    (given_then_failed c.args.job.now.retries g.S.Site.tells c.in-Err-props_pass.e _ _ _ _ c.in-Ok.ensures.frame c.in-Ok-copy_files.ensures.frame c.in-Err-props_pass.ensures.frame)
 
 pub returns-in-Err-props_pass-clause-under_way : goal.returns-in-Err-props_pass-clause-under_way
 returns-in-Err-props_pass-clause-under_way g c = λ tells.
@@ -114,8 +115,8 @@ pub returns-in-Err-copy_files-clause-frame : goal.returns-in-Err-copy_files-clau
 returns-in-Err-copy_files-clause-frame g c =
     let start = g.S.Site.view c.args.site.now in
     let two = g.S.Site.view c.copy_files.new.site in
-    subst (λ (o : Outcome). CopiesFiles g.S.Site.tells (cause_of (ending o)) start two) (sym c.uncopied.ensures)
-    (made_then_failed g.S.Site.tells c.in-Err-copy_files.e _ _ _ c.in-Ok.ensures.frame c.in-Err-copy_files.ensures.frame)
+    subst (λ (o : Outcome). CopiesFiles g.S.Site.tells (cause_of c.args.job.now.retries (ending o)) start two) (sym c.uncopied.ensures)
+    (made_then_failed c.args.job.now.retries g.S.Site.tells c.in-Err-copy_files.e _ _ _ c.in-Ok.ensures.frame c.in-Err-copy_files.ensures.frame)
 
 pub returns-in-Err-copy_files-clause-under_way : goal.returns-in-Err-copy_files-clause-under_way
 returns-in-Err-copy_files-clause-under_way g c = λ tells.
@@ -139,3 +140,26 @@ returns-in-Err-clause-under_way g c = λ tells.
     let plan = c.args.plan.now in
     let start = (g.S.Site.view c.args.site.now).told in
     making_under_way (copying_of job plan.moment) plan.items start (g.S.Site.view c.make_dirs.new.site).told.target (c.in-Err.ensures.between tells)
+
+pub returns-in-Ok-props_pass-clause-waits : goal.returns-in-Ok-props_pass-clause-waits
+returns-in-Ok-props_pass-clause-waits g c =
+    waits_on_then _ _ _ _ _ _ _ _ (waits_on_then _ _ _ _ _ _ _ _ c.in-Ok.ensures.waits (unwaited_free _ _ _ _ c.in-Ok-copy_files.ensures.frame.counts)) c.in-Ok-props_pass.ensures.waits
+
+pub returns-in-Err-props_pass-clause-waits : goal.returns-in-Err-props_pass-clause-waits
+returns-in-Err-props_pass-clause-waits g c =
+    let job = c.args.job.now in
+    subst (λ (o : Outcome). WaitsFor job.wait job.retries o (g.S.Site.view c.args.site.now) (g.S.Site.view c.props_pass.new.site) (g.C.Clock.paused c.args.clock.now) (g.C.Clock.paused c.props_pass.new.clock)) (sym c.unfinished.ensures)
+    (waits_on_then _ _ _ _ _ _ _ _ (waits_on_then _ _ _ _ _ _ _ _ c.in-Ok.ensures.waits (unwaited_free _ _ _ _ c.in-Ok-copy_files.ensures.frame.counts))
+    (pass_waits job.wait job.retries c.in-Err-props_pass.e _ _ _ _ c.in-Err-props_pass.ensures.waits))
+
+pub returns-in-Err-copy_files-clause-waits : goal.returns-in-Err-copy_files-clause-waits
+returns-in-Err-copy_files-clause-waits g c =
+    let job = c.args.job.now in
+    subst (λ (o : Outcome). WaitsFor job.wait job.retries o (g.S.Site.view c.args.site.now) (g.S.Site.view c.copy_files.new.site) (g.C.Clock.paused c.args.clock.now) (g.C.Clock.paused c.make_dirs.new.clock)) (sym c.uncopied.ensures)
+    (waits_on_then _ _ _ _ _ _ _ _ c.in-Ok.ensures.waits (copy_waits job.wait job.retries c.in-Err-copy_files.e _ _ _ c.in-Err-copy_files.ensures.frame.counts))
+
+pub returns-in-Err-clause-waits : goal.returns-in-Err-clause-waits
+returns-in-Err-clause-waits g c =
+    let job = c.args.job.now in
+    subst (λ (o : Outcome). WaitsFor job.wait job.retries o (g.S.Site.view c.args.site.now) (g.S.Site.view c.make_dirs.new.site) (g.C.Clock.paused c.args.clock.now) (g.C.Clock.paused c.make_dirs.new.clock)) (sym c.unfinished-in-Err.ensures)
+    (pass_waits job.wait job.retries c.in-Err.e _ _ _ _ c.in-Err.ensures.waits)

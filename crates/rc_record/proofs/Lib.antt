@@ -1,0 +1,11 @@
+pub mod Attributes
+pub mod Decided
+pub mod Paths
+pub mod Places
+pub mod Rising
+pub mod SpelledItem
+pub mod SpelledPlan
+pub mod SpelledRecord
+pub mod Steps
+pub mod Texts
+pub mod Walk

@@ -1,0 +1,6 @@
+pub mod Codes
+pub mod Fields
+pub mod Grammar
+pub mod Answers
+pub mod Rooms
+pub mod Spelling
