@@ -1,8 +1,15 @@
 pub mod Attributes
+pub mod Closed
+pub mod Counts
 pub mod Decided
+pub mod Lengths
+pub mod MarkBytes
 pub mod Paths
+pub mod Pieces
 pub mod Places
+pub mod Puts
 pub mod Rising
+pub mod Since
 pub mod SpelledItem
 pub mod SpelledPlan
 pub mod SpelledRecord

@@ -68,7 +68,7 @@ behind_all (x ∷ y ∷ before) item rest sorted =
     ∙ behind_all (y ∷ before) item rest (second_part (below_all key_cmp (key_of x.path) (map keyed (y ∷ before ++ item ∷ rest))) _ sorted)
 
 -- how many units an item has
-units_one : (item : Item) (stride : ℕ) → is_copy item.act ≡ true → length (item_units stride true item) ≡ range_count stride item.facts.size
+pub units_one : (item : Item) (stride : ℕ) → is_copy item.act ≡ true → length (item_units stride true item) ≡ range_count stride item.facts.size
 units_one item stride copy = rw copy (length-map (ranges_of stride item.facts.size) (unit_of item) ∙ length-map-range_with_len _ 0 (range_count stride item.facts.size))
 
 within_limit : (with_bytes copy : Bool) (stride units size : ℕ) → (with_bytes ≡ true → copy ≡ true → size ≤ SIZE_MAX) → (with_bytes ≡ true → copy ≡ true → units + range_count stride size ≤ UNITS_MAX)
@@ -78,7 +78,7 @@ within_limit true false stride units size small few = refl
 within_limit false copy stride units size small few = refl
 
 -- the units of items, with those of one more and of all behind it
-units_more : (head : Head) (before : List Item) (item : Item) (rest : List Item) → units_in head (before ++ item ∷ rest) ≡ units_in head before + (length (item_units head.stride head.with_bytes item) + units_in head rest)
+pub units_more : (head : Head) (before : List Item) (item : Item) (rest : List Item) → units_in head (before ++ item ∷ rest) ≡ units_in head before + (length (item_units head.stride head.with_bytes item) + units_in head rest)
 units_more head before item rest =
     let of_item = item_units head.stride head.with_bytes in
     ap length (flat_map-append of_item before (item ∷ rest) ∙ ap (λ us. flat_map of_item before ++ us) (flat_map-cons of_item item rest))

@@ -4,3 +4,5 @@ pub mod Grammar
 pub mod Answers
 pub mod Rooms
 pub mod Spelling
+pub mod Moments
+pub mod Writing
