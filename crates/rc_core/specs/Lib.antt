@@ -1,0 +1,10 @@
+pub mod Copies
+pub mod Events
+pub mod Follows
+pub mod Images
+pub mod Nodes
+pub mod Opened
+pub mod Rows
+pub mod Sound
+pub mod Stops
+pub mod Touched
