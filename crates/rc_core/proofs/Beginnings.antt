@@ -1,9 +1,9 @@
 -- That the state of an opening is sound.
-use Rattle.std.proofs.Common.{◌≡◌, ℕ, zero, suc, ◌+◌, ◌<◌, Bool, true, false, cond, ◌&&◌, List, [], ◌∷◌, ◌++◌, length, map, refl, sym, ap, subst, ◌∙◌, ◌⊎◌, inl, inr, arith, true≢false}
+use Rattle.std.proofs.Common.{◌≡◌, ℕ, zero, suc, ◌+◌, Bool, true, false, cond, ◌&&◌, List, [], ◌∷◌, ◌++◌, length, map, refl, sym, ap, subst, ◌∙◌, inl, inr, arith, true≢false}
 use Rattle.std.proofs.lemmas.List.{length-map}
 use Rattle.std.proofs.lemmas.List.Elements.{All-cons, All-nil}
 use Rattle.std.proofs.lemmas.Option.{slice_get-map}
-use Rattle.std.specs.Prelude.{Option, Some, None, IfSome, option_map, slice_get, All}
+use Rattle.std.specs.Prelude.{Option, Some, None, IfSome, option_map, slice_get}
 use Rattle.std.specs.List.{flat_map}
 use Rattle.std.specs.FinMap.{get}
 use Rattle.rc_tree.specs.Path.{key_of}
@@ -12,13 +12,13 @@ use Rattle.rc_class.specs.declared.item.Item.{Item}
 use Rattle.rc_class.specs.declared.noted.Noted.{Noted}
 use Rattle.rc_class.specs.declared.plan.Plan.{Plan}
 use Rattle.rc_class.specs.declared.rules.Rules.{Rules}
-use Rattle.rc_class.specs.Units.{Range, Unit, is_copy, item_units, ranges_of, unit_of, units_of}
+use Rattle.rc_class.specs.Units.{Range, Unit, is_copy, item_units, ranges_of, unit_of}
 use Rattle.rc_core.specs.Copies.{Holds, IsMarked, IsOnWay, copy_at, copy_goal, unit_at}
 use Rattle.rc_core.specs.Follows.{IsOpen}
-use Rattle.rc_core.specs.Nodes.{are_rising, node_at, tree_of}
+use Rattle.rc_core.specs.Nodes.{are_rising, tree_of}
 use Rattle.rc_core.specs.Opened.{copied_from, copied_of, extent_of, extents_from, extents_of, files_of, numbered, opened, opened_file, opened_files, opened_unit, opened_units, opening_by}
-use Rattle.rc_core.specs.Rows.{end_of, file_row, has, holding_of, is_done, is_finished, is_marked, is_settled, range_of, unit_row}
-use Rattle.rc_core.specs.Sound.{AreAllMarked, IsApart, IsSoundFile, IsSoundHolding, IsSoundUnit, Sound}
+use Rattle.rc_core.specs.Rows.{has, holding_of, is_done, is_finished, is_marked, is_settled, range_of}
+use Rattle.rc_core.specs.Sound.{IsApart, IsSoundFile, IsSoundHolding, IsSoundUnit, Sound}
 use Rattle.rc_core.specs.declared.node.Node.{Node}
 use Rattle.rc_core.specs.declared.rows.Copied.{Copied}
 use Rattle.rc_core.specs.declared.rows.Extent.{Extent}

@@ -1,8 +1,8 @@
 -- The rows of an opening, built one after another.
-use Rattle.std.proofs.Common.{◌≡◌, ℕ, zero, suc, ◌+◌, ◌<◌, ◌≤◌, Bool, true, false, cond, ◌&&◌, List, [], ◌∷◌, ◌++◌, get_or, length, map, take, refl, sym, ap, subst, ◌∙◌, arith, append_assoc}
+use Rattle.std.proofs.Common.{◌≡◌, ℕ, suc, ◌+◌, ◌<◌, ◌≤◌, Bool, true, false, cond, ◌&&◌, List, [], ◌∷◌, ◌++◌, get_or, length, map, take, refl, sym, ap, subst, ◌∙◌, arith, append_assoc}
 use Rattle.std.proofs.lemmas.List.{length-map, length-take, map-append, take_all, take_more}
 use Rattle.std.proofs.lemmas.List.FromFn.{get_or-map-range_with_len, length-map-range_with_len}
-use Rattle.std.specs.Prelude.{Option, slice_get}
+use Rattle.std.specs.Prelude.{slice_get}
 use Rattle.rc_class.specs.declared.item.Item.{Item}
 use Rattle.rc_class.specs.declared.noted.Noted.{Noted}
 use Rattle.rc_class.specs.declared.plan.Plan.{Plan}

@@ -1,8 +1,8 @@
 -- One element of a list that is changed where it stands.
-use Rattle.std.proofs.Common.{◌≡◌, ℕ, ◌<◌, List, length, get_or, refl, sym, ap, ◌∙◌}
+use Rattle.std.proofs.Common.{◌≡◌, ℕ, ◌<◌, List, length, get_or, sym, ap, ◌∙◌}
 use Rattle.std.proofs.lemmas.List.{set-get_or}
 use Rattle.std.proofs.lemmas.Option.{slice_get-get_or}
-use Rattle.std.specs.Prelude.{Option, Some, option_map, slice_set, Result, Ok, Err}
+use Rattle.std.specs.Prelude.{option_map, slice_set, Result, Ok, Err}
 use Rattle.rc_core.specs.Rows.{Leaves, changed_at, with_at}
 
 pub changed_within : {A : Type 0} (n : ℕ) (change : A → A) (xs : List A) (d : A) → n < length xs → changed_at n change xs ≡ slice_set xs n (change (get_or xs n d))

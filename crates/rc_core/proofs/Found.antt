@@ -1,10 +1,9 @@
 -- What is known of a unit that is held, and of a file that only its finish is missing.
-use Rattle.std.proofs.Common.{◌≡◌, ℕ, suc, ◌+◌, Bool, true, false, cond, ◌&&◌, not, ◌||◌, ◌==◌, List, [], ◌∷◌, refl, sym, ap, subst, ◌∙◌, arith, true≢false}
-use Rattle.std.specs.Prelude.{Option, Some, None, IsSomeAnd, slice_get}
-use Rattle.std.specs.List.{list_all}
+use Rattle.std.proofs.Common.{◌≡◌, ℕ, Bool, true, false, cond, ◌&&◌, ◌==◌, refl, sym, ap, subst, ◌∙◌, true≢false}
+use Rattle.std.specs.Prelude.{Option, Some, None, IsSomeAnd}
 use Rattle.rc_core.specs.Events.{Closing, Found, closing, closing_at, closing_in, found_at, found_in, held_under}
 use Rattle.rc_core.specs.Rows.{all_marked, file_number, file_row, holding_of, is_done, is_free, is_marked, is_open, unit_row}
-use Rattle.rc_core.specs.Sound.{AreAllMarked, Sound}
+use Rattle.rc_core.specs.Sound.{Sound}
 use Rattle.rc_core.specs.declared.rows.FileRow.{FileRow}
 use Rattle.rc_core.specs.declared.rows.FileState.{FileState}
 use Rattle.rc_core.specs.declared.rows.FileState.TheVariants as file

@@ -1,13 +1,11 @@
 -- That what a stop may leave of a sound state follows the opening.
-use Rattle.std.proofs.Common.{◌≡◌, ◌≢◌, ℕ, zero, suc, ◌+◌, ◌<◌, ◌≤◌, Bool, true, false, cond, List, [], ◌∷◌, ◌++◌, get_or, length, map, refl, sym, ap, subst, ◌∙◌, ◌⊎◌, inl, inr, arith, true≢false, length-append}
+use Rattle.std.proofs.Common.{◌≡◌, ℕ, zero, suc, ◌+◌, ◌<◌, ◌≤◌, Bool, true, false, cond, List, [], ◌∷◌, ◌++◌, get_or, length, map, refl, sym, ap, subst, ◌∙◌, ◌⊎◌, inl, inr, arith, true≢false, length-append}
 use Rattle.std.proofs.lemmas.Bool.{cases_lt}
 use Rattle.std.proofs.lemmas.List.{length-map}
 use Rattle.std.proofs.lemmas.Option.{slice_get-get_or, slice_get_within, slice_get_past}
-use Rattle.std.specs.Prelude.{Option, Some, None, IfSome, IsSomeAnd, option_map, filter, slice_get, All, Contains}
+use Rattle.std.specs.Prelude.{Option, Some, None, filter, slice_get, All, Contains}
 use Rattle.std.specs.List.{flat_map}
 use Rattle.std.specs.FinMap.{get}
-use Rattle.rc_tree.specs.declared.attr.Kind.TheVariants.{File}
-use Rattle.rc_tree.specs.declared.props.Props.{Props}
 use Rattle.rc_tree.specs.Path.{key_of}
 use Rattle.rc_tree.specs.Tree as rc
 use Rattle.rc_class.specs.declared.decision.Act.{Act}
@@ -19,15 +17,14 @@ use Rattle.rc_class.specs.Class.{is_lonely}
 use Rattle.rc_class.specs.Items.{item_at}
 use Rattle.rc_class.specs.Sides.{Acts}
 use Rattle.rc_class.specs.Units.{Range, Unit, is_copy, item_units, units_of}
-use Rattle.rc_volume.specs.Images.{AreMixed}
-use Rattle.rc_core.specs.Copies.{HasBytes, Holds, IsMarked, IsNew, IsOnWay, IsOver, IsUnderway, MarksHold, copies_of, copy_at, copy_goal, unit_at}
-use Rattle.rc_core.specs.Follows.{AreKept, Follows, HasFileOf}
-use Rattle.rc_core.specs.Images.{AreMarks, IsMarkOf, MayStop, image_of}
+use Rattle.rc_core.specs.Copies.{HasBytes, Holds, IsMarked, IsOnWay, IsUnderway, copies_of, copy_at, copy_goal, unit_at}
+use Rattle.rc_core.specs.Follows.{AreKept, Follows}
+use Rattle.rc_core.specs.Images.{IsMarkOf, MayStop, image_of}
 use Rattle.rc_core.specs.Nodes.{node_at, tree_of}
 use Rattle.rc_core.specs.Opened.{copied_from, copied_of, extent_of, extents_from, extents_of, files_of, opening_of}
 use Rattle.rc_core.specs.Rows.{all_had, end_of, file_row, is_done, is_finished, is_marked, is_settled, may_be_marked, range_of, unit_row}
-use Rattle.rc_core.specs.Sound.{IsApart, IsSoundFile, IsSoundUnit, Sound}
-use Rattle.rc_core.specs.Stops.{IsPut, MayBeByte, MayBeLeft, MayBeNode, Stood}
+use Rattle.rc_core.specs.Sound.{IsApart, Sound}
+use Rattle.rc_core.specs.Stops.{MayBeByte, MayBeLeft, MayBeNode}
 use Rattle.rc_core.specs.declared.node.Node.{Node}
 use Rattle.rc_core.specs.declared.rows.Copied.{Copied}
 use Rattle.rc_core.specs.declared.rows.Extent.{Extent}
@@ -37,7 +34,7 @@ use Rattle.rc_core.specs.declared.rows.UnitState.{UnitState}
 use Rattle.rc_core.specs.declared.rows.UnitState.TheVariants as unit
 use Rattle.rc_core.specs.declared.state.State.{State}
 use Rattle.rc_core.proofs.Beginnings.{IsUnitAt, no_units, unit_of_extent}
-use Rattle.rc_core.proofs.LaidOut.{Fill, IsFileAt, extent_of_row, file_at, node_in, source_of}
+use Rattle.rc_core.proofs.LaidOut.{extent_of_row, file_at, node_in}
 use Rattle.rc_core.proofs.Lists.{mapped, one, same_some, some_none}
 use Rattle.rc_core.proofs.RisingItems.{one_number, own_found}
 

@@ -1,12 +1,12 @@
 -- That a sound state stays sound where one unit changes, where one file changes, and where the target is synced.
-use Rattle.std.proofs.Common.{◌≡◌, ◌≢◌, ℕ, ◌+◌, ◌<◌, ◌≤◌, Bool, true, false, List, [], ◌∷◌, ◌++◌, length, map, refl, sym, ap, subst, ◌∙◌, ◌⊎◌, inl, inr, arith, true≢false}
+use Rattle.std.proofs.Common.{◌≡◌, ◌≢◌, ℕ, ◌<◌, ◌≤◌, Bool, true, false, List, [], ◌∷◌, ◌++◌, map, refl, sym, ap, subst, ◌∙◌, ◌⊎◌, inl, inr, arith, true≢false}
 use Rattle.std.proofs.lemmas.Option.{IfSome_then, slice_get-map}
 use Rattle.std.proofs.lemmas.List.Elements.{All-append, All-cons, All-nil}
-use Rattle.std.specs.Prelude.{Option, Some, None, IfSome, IsSomeAnd, option_map, slice_get, slice_set, All}
+use Rattle.std.specs.Prelude.{Option, Some, None, option_map, slice_get, slice_set, All}
 use Rattle.rc_tree.specs.Tree.{Node}
 use Rattle.rc_core.specs.Copies.{Holds, IsOnWay}
-use Rattle.rc_core.specs.Rows.{all_had, all_synced, end_of, file_row, holding_of, is_done, is_finished, is_marked, is_settled, range_of, synced, touch, unit_row}
-use Rattle.rc_core.specs.Sound.{IsApart, IsSoundFile, IsSoundHolding, IsSoundUnit, Sound, front_of}
+use Rattle.rc_core.specs.Rows.{all_had, all_synced, end_of, file_row, holding_of, is_done, is_finished, is_marked, range_of, synced, touch, unit_row}
+use Rattle.rc_core.specs.Sound.{IsApart, IsSoundFile, IsSoundUnit, Sound, front_of}
 use Rattle.rc_core.specs.declared.rows.Extent.{Extent}
 use Rattle.rc_core.specs.declared.rows.FileRow.{FileRow}
 use Rattle.rc_core.specs.declared.rows.FileState.{FileState}

@@ -1,6 +1,6 @@
 -- What keeps the bytes of a file's units: what stands, the file at its length or on the way there, and the end.
-use Rattle.std.proofs.Common.{◌≡◌, ℕ, Bool, true, false, [], cond, length, refl, sym, ap, subst, ◌∙◌, ◌⊎◌, inl, inr, length-append, length-take, take, replicate, ◌-◌, arith}
-use Rattle.std.specs.Prelude.{Option, Some, None, IsSomeAnd, option_map, slice_get, List, All}
+use Rattle.std.proofs.Common.{◌≡◌, ℕ, Bool, true, false, [], length, refl, sym, ap, subst, ◌∙◌, length-append, length-take, take, replicate, ◌-◌, arith}
+use Rattle.std.specs.Prelude.{Option, Some, None, slice_get, List, All}
 use Rattle.std.proofs.lemmas.List.{length-replicate}
 use Rattle.std.proofs.lemmas.List.Elements.{All-nil}
 use Rattle.rc_tree.specs.declared.attr.Kind.TheVariants.{File}
@@ -9,7 +9,7 @@ use Rattle.rc_class.specs.declared.item.Item.{Item}
 use Rattle.rc_class.specs.declared.plan.Plan.{Plan}
 use Rattle.rc_class.specs.declared.rules.Rules.{Rules}
 use Rattle.rc_class.specs.Class.{is_lonely}
-use Rattle.rc_class.specs.Goal.{copied_file, new_file, picked}
+use Rattle.rc_class.specs.Goal.{picked}
 use Rattle.rc_class.specs.Units.{Range}
 use Rattle.rc_volume.specs.Site.{IsHalfResized, resized}
 use Rattle.rc_core.specs.Copies.{HasBytes, Holds, IsOnWay, IsUnderway, copy_goal}

@@ -1,19 +1,17 @@
 -- That claiming, settling and marking keep a state sound.
-use Rattle.std.proofs.Common.{◌≡◌, ◌≢◌, ℕ, ◌+◌, ◌<◌, ◌≤◌, Bool, true, false, ◌==◌, not, List, [], ◌∷◌, get_or, map, refl, sym, ap, subst, ◌∙◌, arith, true≢false}
+use Rattle.std.proofs.Common.{◌≡◌, ℕ, ◌+◌, Bool, true, false, ◌==◌, not, [], get_or, refl, sym, ap, subst, ◌∙◌, arith, true≢false}
 use Rattle.std.proofs.lemmas.Option.{slice_get-get_or, slice_get-map}
 use Rattle.std.proofs.lemmas.List.Quantifiers.{position-Some}
 use Rattle.std.proofs.lemmas.List.Elements.{All-cons, All-nil}
-use Rattle.std.specs.Prelude.{Option, Some, None, IfSome, IsSomeAnd, slice_get, All}
-use Rattle.rc_class.specs.Units.{Range}
+use Rattle.std.specs.Prelude.{Option, Some, IfSome, IsSomeAnd, slice_get}
 use Rattle.rc_core.specs.Copies.{Holds}
 use Rattle.rc_core.specs.Events.{Found, MayClaim, after, claim, claimed, held_under, is_claimable, is_whole, marked_as, settle_unit, where_some}
-use Rattle.rc_core.specs.Rows.{all_synced, file_row, has, holding_of, in_state, is_free, is_given_up, is_marked, is_settled, range_of, synced, unit_row, with_unit}
+use Rattle.rc_core.specs.Rows.{all_synced, file_row, has, holding_of, in_state, is_free, is_given_up, is_settled, range_of, synced, unit_row, with_unit}
 use Rattle.rc_core.specs.Sound.{IsApart, IsSoundHolding, IsSoundUnit, Sound, front_of}
 use Rattle.rc_core.specs.declared.event.Event.TheVariants as event
 use Rattle.rc_core.specs.declared.rows.FileRow.{FileRow}
 use Rattle.rc_core.specs.declared.rows.Holding.{Holding}
 use Rattle.rc_core.specs.declared.rows.UnitRow.{UnitRow}
-use Rattle.rc_core.specs.declared.rows.UnitState.{UnitState}
 use Rattle.rc_core.specs.declared.rows.UnitState.TheVariants as unit
 use Rattle.rc_core.specs.declared.state.State.{State}
 use Rattle.rc_core.proofs.Found.{IsHeldUnder, both_true, free_not_marked, held_found, held_not_marked, held_state, some_and}

@@ -1,16 +1,15 @@
 -- That failed attempts keep a state sound.
-use Rattle.std.proofs.Common.{◌≡◌, ◌≢◌, ℕ, ◌+◌, ◌<◌, ◌≤◌, Bool, true, false, cond, List, [], ◌∷◌, length, refl, sym, ap, subst, ◌∙◌, ◌⊎◌, inl, inr, arith, true≢false}
+use Rattle.std.proofs.Common.{◌≡◌, ℕ, ◌+◌, ◌≤◌, Bool, true, false, cond, [], ◌∷◌, length, refl, sym, ap, subst, ◌∙◌, ◌⊎◌, inl, inr, arith, true≢false}
 use Rattle.std.proofs.lemmas.List.Elements.{All-cons, All-nil}
-use Rattle.std.specs.Prelude.{Option, Some, None, IfSome, IsSomeAnd, option_map, nat_lt, slice_get, slice_set, All}
-use Rattle.std.specs.List.{list_all}
+use Rattle.std.specs.Prelude.{Option, Some, None, IsSomeAnd, option_map, nat_lt, slice_set}
 use Rattle.rc_tree.specs.Tree.{Node}
 use Rattle.rc_class.specs.Units.{Range}
-use Rattle.rc_volume.specs.Site.{IsHalfResized, IsTorn, resized}
-use Rattle.rc_core.specs.Copies.{HasBytes, Holds}
+use Rattle.rc_volume.specs.Site.{IsTorn, resized}
+use Rattle.rc_core.specs.Copies.{Holds}
 use Rattle.rc_core.specs.Follows.{HasFileOf}
 use Rattle.rc_core.specs.Nodes.{node_of}
-use Rattle.rc_core.specs.Events.{Closing, Found, IsAtKey, IsLeftOfFinish, IsLeftOfUnit, IsLeftPrepared, IsLeftUnprepared, MayFail, after, closing, fail, failed_file, fail_finish, fail_unit, given_up_at, held_under, where_some, with_attempt}
-use Rattle.rc_core.specs.Rows.{begun, changed_at, end_of, end_size, file_row, holding_of, is_done, is_open, prepared, touch, unit_row, with_at, with_file}
+use Rattle.rc_core.specs.Events.{Closing, Found, IsAtKey, IsLeftOfFinish, IsLeftOfUnit, IsLeftUnprepared, MayFail, after, closing, failed_file, fail_finish, fail_unit, given_up_at, held_under, where_some, with_attempt}
+use Rattle.rc_core.specs.Rows.{begun, end_of, end_size, file_row, is_done, prepared, with_at, with_file}
 use Rattle.rc_core.specs.Sound.{IsApart, IsSoundUnit, Sound, front_of}
 use Rattle.rc_core.specs.declared.event.Event.TheVariants as event
 use Rattle.rc_core.specs.declared.event.What.{What}
@@ -20,13 +19,12 @@ use Rattle.rc_core.specs.declared.rows.Extent.{Extent}
 use Rattle.rc_core.specs.declared.rows.FileRow.{FileRow}
 use Rattle.rc_core.specs.declared.rows.FileState.{FileState}
 use Rattle.rc_core.specs.declared.rows.FileState.TheVariants as file
-use Rattle.rc_core.specs.declared.rows.Holding.{Holding}
 use Rattle.rc_core.specs.declared.rows.UnitRow.{UnitRow}
 use Rattle.rc_core.specs.declared.rows.UnitState.TheVariants as unit
 use Rattle.rc_core.specs.declared.state.State.{State}
 use Rattle.rc_core.proofs.Found.{IsClosing, IsHeldUnder, closing_found, held_found, held_not_marked, held_undone, open_undone, some_and}
 use Rattle.rc_core.proofs.Kept.{IsSpared, OnWay, spared_unit, touched_as, touched_kept, unit_kept}
-use Rattle.rc_core.proofs.KeptBytes.{Keeps, holding, keeps_begun, keeps_end, keeps_half, keeps_resized, keeps_same, spared, way_begun}
+use Rattle.rc_core.proofs.KeptBytes.{Keeps, keeps_begun, keeps_end, keeps_half, keeps_resized, keeps_same, spared, way_begun}
 use Rattle.rc_core.proofs.LaidOut.{Fill, in_file, source_of, units_apart}
 use Rattle.rc_core.proofs.Lists.{first_of_all, set_cases, some_none}
 use Rattle.rc_core.proofs.SameBytes.{holds_outside, torn}

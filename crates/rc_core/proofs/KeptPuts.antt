@@ -1,20 +1,20 @@
 -- That preparing a unit and putting its bytes keep a state sound.
-use Rattle.std.proofs.Common.{◌≡◌, ◌≢◌, ℕ, suc, ◌+◌, ◌<◌, ◌≤◌, Bool, true, false, cond, List, [], ◌∷◌, length, refl, sym, ap, subst, ◌∙◌, ◌⊎◌, inl, inr, arith, true≢false}
+use Rattle.std.proofs.Common.{◌≡◌, ◌≢◌, ℕ, ◌+◌, ◌<◌, ◌≤◌, Bool, true, false, List, [], ◌∷◌, length, refl, sym, ap, subst, ◌∙◌, ◌⊎◌, inl, inr, arith, true≢false}
 use Rattle.std.proofs.lemmas.Bool.{cases_lt, leb-true}
 use Rattle.std.proofs.lemmas.List.Elements.{All-cons, All-nil}
 use Rattle.std.proofs.lemmas.Slice.Eq.{bytes_eq-Decides}
-use Rattle.std.specs.Prelude.{Option, Some, None, IfSome, IsSomeAnd, option_map, nat_le, slice_get, slice_set, All}
+use Rattle.std.specs.Prelude.{Option, Some, None, IfSome, IsSomeAnd, option_map, nat_le, slice_get, slice_set}
 use Rattle.std.specs.Str.{bytes_eq}
 use Rattle.rc_tree.specs.declared.attr.Kind.TheVariants.{File}
 use Rattle.rc_tree.specs.Tree.{Node}
 use Rattle.rc_class.specs.declared.item.Item.{Item}
 use Rattle.rc_class.specs.Units.{Range}
 use Rattle.rc_volume.specs.Reading.{part_of}
-use Rattle.rc_volume.specs.Site.{resized, written_at}
-use Rattle.rc_core.specs.Copies.{HasBytes, Holds}
+use Rattle.rc_volume.specs.Site.{written_at}
+use Rattle.rc_core.specs.Copies.{Holds}
 use Rattle.rc_core.specs.Follows.{HasFileOf}
 use Rattle.rc_core.specs.Events.{Found, after, held_under, is_next_piece, is_of_source, is_piece, prepare_file, prepare_unit, put_bytes, put_piece, put_unit, where_some}
-use Rattle.rc_core.specs.Rows.{begun, changed_at, file_row, has, holding_of, in_state, is_settled, prepared, range_of, touch, unit_row, with_at, with_unit}
+use Rattle.rc_core.specs.Rows.{begun, has, holding_of, in_state, is_settled, prepared, unit_row, with_at}
 use Rattle.rc_core.specs.Sound.{IsApart, IsSoundHolding, IsSoundUnit, Sound, front_of}
 use Rattle.rc_core.specs.declared.event.Event.TheVariants as event
 use Rattle.rc_core.specs.declared.rows.Extent.{Extent}
@@ -24,10 +24,10 @@ use Rattle.rc_core.specs.declared.rows.UnitRow.{UnitRow}
 use Rattle.rc_core.specs.declared.rows.UnitState.TheVariants as unit
 use Rattle.rc_core.specs.declared.state.State.{State}
 use Rattle.rc_core.proofs.Found.{IsHeldUnder, both_true, held_found, held_not_marked, held_state, held_undone, some_and}
-use Rattle.rc_core.proofs.Kept.{IsOwnTicket, IsSpared, OnWay, same_ticket, spared_unit, touched_as, touched_kept, unit_kept}
-use Rattle.rc_core.proofs.KeptBytes.{IsHolding, Keeps, holding, keeps_begun, keeps_resized, resized_length, spared, way_begun, way_file}
+use Rattle.rc_core.proofs.Kept.{IsOwnTicket, IsSpared, OnWay, same_ticket, spared_unit, touched_kept, unit_kept}
+use Rattle.rc_core.proofs.KeptBytes.{Keeps, holding, keeps_begun, keeps_resized, resized_length, spared, way_begun, way_file}
 use Rattle.rc_core.proofs.LaidOut.{Fill, in_file, source_of, units_apart}
-use Rattle.rc_core.proofs.Lists.{first_of_all, one, same_some, set_cases, some_none}
+use Rattle.rc_core.proofs.Lists.{first_of_all, one, same_some, set_cases}
 use Rattle.rc_core.proofs.SameBytes.{holds_more, holds_outside, written}
 use Rattle.rc_core.proofs.Ways.{way_bytes, way_resized}
 

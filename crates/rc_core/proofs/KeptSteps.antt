@@ -1,5 +1,5 @@
 -- That each event, and each list of events, keeps a state sound.
-use Rattle.std.proofs.Common.{ℕ, List, [], ◌∷◌, subst, sym}
+use Rattle.std.proofs.Common.{List, subst, sym}
 use Rattle.std.specs.Prelude.{Result, Ok, Err}
 use Rattle.rc_core.specs.Events.{Allows, Run, Steps, after}
 use Rattle.rc_core.specs.Sound.{Sound}

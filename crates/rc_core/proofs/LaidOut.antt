@@ -1,13 +1,12 @@
 -- What the rows of a state have from its opening: each file its source, and each unit a range of its file, apart from all
 -- others.
-use Rattle.std.proofs.Common.{◌≡◌, ◌≢◌, ℕ, zero, suc, ◌+◌, ◌<◌, ◌≤◌, Bool, true, false, cond, ◌&&◌, List, [], ◌∷◌, ◌++◌, length, get_or, map, refl, sym, ap, subst, ◌∙◌, ◌⊎◌, inl, inr, arith, true≢false}
+use Rattle.std.proofs.Common.{◌≡◌, ◌≢◌, ℕ, zero, suc, ◌+◌, ◌<◌, ◌≤◌, Bool, true, false, cond, ◌&&◌, List, [], ◌∷◌, length, get_or, map, refl, sym, ap, subst, ◌∙◌, ◌⊎◌, inl, inr, arith, true≢false}
 use Rattle.std.proofs.lemmas.Option.{slice_get-map, slice_get_within, get_or_from_slice_get}
 use Rattle.std.proofs.lemmas.Bool.{cases_lt}
-use Rattle.std.specs.Prelude.{Option, Some, None, IsSomeAnd, option_map, filter, slice_get}
+use Rattle.std.specs.Prelude.{Option, Some, option_map, filter, slice_get}
 use Rattle.std.specs.FinMap.{get, get-from_entries}
-use Rattle.rc_tree.specs.Path.{key_cmp, key_of}
+use Rattle.rc_tree.specs.Path.{key_of}
 use Rattle.rc_tree.proofs.Keys.{key_cmp-total}
-use Rattle.rc_tree.specs.Tree as rc
 use Rattle.rc_class.specs.declared.item.Item.{Item}
 use Rattle.rc_class.specs.declared.plan.Plan.{Plan}
 use Rattle.rc_class.specs.Units.{AreApart, AreInside, Range, Unit, is_copy, item_units, ranges_of, unit_of}

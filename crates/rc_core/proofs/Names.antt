@@ -1,5 +1,5 @@
 -- The last name of a path, as the last element of its list of names.
-use Rattle.std.proofs.Common.{◌≡◌, ℕ, zero, suc, ◌-◌, ◌<◌, List, [], ◌∷◌, get_or, length, true, refl, sym, ap, ◌∙◌, arith, true≢false}
+use Rattle.std.proofs.Common.{◌≡◌, ℕ, suc, ◌-◌, ◌<◌, List, [], ◌∷◌, get_or, length, true, refl, sym, ap, ◌∙◌, arith, true≢false}
 use Rattle.std.proofs.Math.Dec.{ltb}
 use Rattle.rc_tree.specs.Path.{last_name}
 

@@ -1,6 +1,6 @@
 -- When a unit may be prepared, when bytes may be put, and when neither.
-use Rattle.std.proofs.Common.{◌≡◌, ℕ, zero, suc, ◌<◌, ◌==◌, Bool, true, false, List, [], ◌∷◌, length, refl, sym, ap, subst, ◌∙◌, arith, true≢false}
-use Rattle.std.specs.Prelude.{Option, Some, None, IsSomeAnd}
+use Rattle.std.proofs.Common.{◌≡◌, ℕ, zero, suc, ◌<◌, ◌==◌, true, false, List, [], ◌∷◌, length, refl, sym, ap, subst, ◌∙◌, arith, true≢false}
+use Rattle.std.specs.Prelude.{Option, Some, IsSomeAnd}
 use Rattle.rc_core.specs.Events.{Found, held_under, is_next_piece, is_piece, prepare_unit, put_piece, put_unit, where_some}
 use Rattle.rc_core.specs.declared.state.State.{State}
 

@@ -1,5 +1,5 @@
 -- When texts, keys and properties are the same.
-use Rattle.std.proofs.Common.{◌≡◌, ℕ, true, false, Bool, ◌&&◌, List, ap, refl, subst, ◌∙◌, sym, true≢false}
+use Rattle.std.proofs.Common.{◌≡◌, ℕ, true, Bool, ◌&&◌, List, ap, refl, ◌∙◌, sym, true≢false}
 use Rattle.std.specs.Prelude.{IsTrue, ◌↔◌}
 use Rattle.std.specs.declared.cmp.Ordering.{Ordering}
 use Rattle.std.specs.declared.cmp.Ordering.TheVariants.{Less, Equal, Greater}

@@ -1,8 +1,8 @@
 -- When a file still has the source's bytes in a range: after bytes are put elsewhere, and after its length is set.
-use Rattle.std.proofs.Common.{◌≡◌, ℕ, zero, suc, ◌+◌, ◌-◌, ◌<◌, ◌≤◌, min, max, Bool, true, List, [], ◌∷◌, ◌++◌, length, take, drop, replicate, refl, sym, ap, subst, ◌∙◌, ◌⊎◌, inl, inr, arith, length-append, length-take, length-drop}
+use Rattle.std.proofs.Common.{◌≡◌, ℕ, zero, suc, ◌+◌, ◌-◌, ◌<◌, ◌≤◌, min, List, [], ◌∷◌, ◌++◌, length, take, drop, replicate, refl, sym, ap, subst, ◌∙◌, ◌⊎◌, inl, inr, arith, length-append, length-take, length-drop}
 use Rattle.std.proofs.lemmas.Bool.{cases_lt}
 use Rattle.std.proofs.lemmas.List.{take_all}
-use Rattle.std.specs.Prelude.{Option, Some, None, IsSomeAnd, slice_get, option_map}
+use Rattle.std.specs.Prelude.{Option, Some, None, slice_get}
 use Rattle.rc_tree.specs.Tree.{Node}
 use Rattle.rc_class.specs.Units.{Range}
 use Rattle.rc_volume.specs.Reading.{part_of}

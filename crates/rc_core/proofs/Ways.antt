@@ -1,7 +1,6 @@
 -- What stands on the way of a copy: other bytes, the file as it is made, and the end.
-use Rattle.std.proofs.Common.{◌≡◌, ℕ, Bool, true, false, [], cond, length, refl, sym, ap, subst, ◌∙◌, inl, inr, true≢false}
-use Rattle.std.specs.Prelude.{Option, Some, None, IsSomeAnd, option_map}
-use Rattle.rc_tree.specs.declared.attr.Kind.TheVariants.{File}
+use Rattle.std.proofs.Common.{◌≡◌, ℕ, Bool, true, false, [], cond, length, refl, sym, ap, subst, ◌∙◌, inr, true≢false}
+use Rattle.std.specs.Prelude.{Option, Some, None, option_map}
 use Rattle.rc_tree.specs.Path.{last_name}
 use Rattle.rc_tree.specs.Tree.{Node}
 use Rattle.rc_class.specs.declared.item.Item.{Item}
@@ -11,7 +10,7 @@ use Rattle.rc_class.specs.Class.{is_lonely}
 use Rattle.rc_class.specs.Goal.{copied_file, new_file, picked}
 use Rattle.rc_volume.specs.Images.{AreMixed}
 use Rattle.rc_volume.specs.Site.{IsHalfResized, fresh_file, resized}
-use Rattle.rc_core.specs.Copies.{IsNew, IsOver, IsOnWay, IsUnderway, copy_goal}
+use Rattle.rc_core.specs.Copies.{IsOnWay, IsUnderway, copy_goal}
 use Rattle.rc_core.specs.Follows.{HasFileOf}
 use Rattle.rc_core.proofs.SameBytes.{half_resized_same, resized_same}
 

@@ -2,18 +2,15 @@
 -- here in place of the record's bytes.
 use Rattle.std.specs.Prelude.{◌≡◌, ◌≢◌, ◌⊎◌, ℕ, ◌<◌, Bool, true, false, List, Option, Some, None, IfSome, IsSomeAnd, length}
 use Rattle.std.specs.FinMap.{get}
-use Rattle.rc_tree.specs.declared.attr.Kind.{Kind}
-use Rattle.rc_tree.specs.declared.attr.Kind.TheVariants.{File, Dir}
+use Rattle.rc_tree.specs.declared.attr.Kind.TheVariants.{Dir}
 use Rattle.rc_tree.specs.Path.{key_of, last_name}
 use Rattle.rc_tree.specs.Tree.{Node, Tree, IsTree}
 use Rattle.rc_class.specs.declared.decision.Act.{Act}
 use Rattle.rc_class.specs.declared.decision.Act.TheVariants as act
-use Rattle.rc_class.specs.declared.decision.After.{After}
-use Rattle.rc_class.specs.declared.decision.After.TheVariants.{Nothing, RemoveSource, ClearArchive}
+use Rattle.rc_class.specs.declared.decision.After.TheVariants.{Nothing}
 use Rattle.rc_class.specs.declared.item.Item.{Item}
 use Rattle.rc_class.specs.declared.noted.Noted.{Noted}
 use Rattle.rc_class.specs.declared.rules.Rules.{Rules}
-use Rattle.rc_class.specs.Goal.{target_goal}
 use Rattle.rc_class.specs.Items.{are_rising, item_at}
 use Rattle.rc_class.specs.Sides.{Acts, Fits, IsDecidedIn}
 use Rattle.rc_class.specs.Start.{Start, IsPlanOf, goal_source, goal_target}

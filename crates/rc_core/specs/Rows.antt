@@ -1,5 +1,5 @@
 -- Words on the rows of a state.
-use Rattle.std.specs.Prelude.{◌≡◌, ℕ, Bool, true, false, not, ◌&&◌, ◌||◌, ◌==◌, List, ◌∷◌, Option, None, Some, option_map, map, length, slice_get, slice_set, Result, Ok, Err, if◌then◌else◌}
+use Rattle.std.specs.Prelude.{◌≡◌, ℕ, Bool, true, false, not, ◌||◌, ◌==◌, List, ◌∷◌, Option, None, Some, option_map, map, length, slice_get, slice_set, Result, Ok, Err, if◌then◌else◌}
 use Rattle.std.specs.List.{list_all, position}
 use Rattle.rc_tree.specs.Tree.{Node}
 use Rattle.rc_tree.specs.Path.{last_name}

@@ -1,4 +1,4 @@
-use Rattle.std.proofs.Common.{◌≡◌, ◌<◌, List, length, set, subst, sym}
+use Rattle.std.proofs.Common.{◌<◌, List, length, set, subst, sym}
 use Rattle.rc_core.specs.Events.{put_bytes}
 use Rattle.rc_core.specs.Rows.{Leaves, changed_at}
 use Rattle.rc_core.specs.declared.rows.FileRow.{FileRow}

@@ -1,6 +1,5 @@
 use Rattle.rc_core.proofs.Beginnings.{opened_sound}
 use Rattle.rc_core.proofs.KeptSteps.{event_kept, run_kept}
-use Rattle.rc_core.proofs.LaidOut.{Fill}
 use Rattle.rc_core.proofs.laws.soundness_is_kept.Goals as goal
 
 pub returns-clause-step : goal.returns-clause-step

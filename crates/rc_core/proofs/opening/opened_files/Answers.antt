@@ -1,4 +1,4 @@
-use Rattle.std.proofs.Common.{◌≡◌, ap, length, length-take, take, arith}
+use Rattle.std.proofs.Common.{ap, length, length-take, take, arith}
 use Rattle.rc_core.proofs.Building.{file_more, files_few}
 use Rattle.rc_core.proofs.opening.opened_files.Goals as goal
 

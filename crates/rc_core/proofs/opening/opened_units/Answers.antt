@@ -1,5 +1,4 @@
 use Rattle.std.proofs.Common.{◌∷◌, ◌++◌, [], ◌∙◌, ap}
-use Rattle.std.specs.Prelude.{Option, List, Bool}
 use Rattle.rc_core.specs.Opened.{opened_unit}
 use Rattle.rc_core.specs.declared.rows.UnitRow.{UnitRow}
 use Rattle.rc_core.proofs.Building.{unit_more}

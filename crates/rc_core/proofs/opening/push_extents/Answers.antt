@@ -1,4 +1,4 @@
-use Rattle.std.proofs.Common.{◌<◌, ◌≤◌, subst, sym, ◌∙◌}
+use Rattle.std.proofs.Common.{◌<◌, ◌≤◌, subst, sym}
 use Rattle.rc_core.proofs.Building.{range_more, ranges_all}
 use Rattle.rc_core.proofs.opening.push_extents.Goals as goal
 

@@ -1,4 +1,4 @@
-use Rattle.std.proofs.Common.{◌<◌, ap, arith, get_or, length}
+use Rattle.std.proofs.Common.{ap, arith, get_or}
 use Rattle.rc_core.specs.Touched.{Touched}
 use Rattle.rc_core.proofs.Synced.{synced_more}
 use Rattle.rc_core.proofs.rows.sync_rows.Goals as goal
