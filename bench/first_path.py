@@ -4,8 +4,9 @@
 bench/first_path.py [SHAPE ..]    these shapes, or all of them, each once and then at double size
 
 For each text it prints the least processor time of eleven runs of drill, that time over the one at half the size, and the
-peak memory: over the text's size, and for each entry that the two trees have together in the end. The runs of both sizes
-take turns, so that a slow moment of the machine meets both. The program has to be built: ./run --build drill
+peak memory: over the text's size, and for each entry that the two trees have together, at the start or in the end, where
+they have more. The runs of both sizes take turns, so that a slow moment of the machine meets both. The program has to be
+built: ./run --build drill
 """
 import argparse
 import hashlib
@@ -22,9 +23,14 @@ BEFORE = "133485407990000000"
 MB = 1_000_000
 RUNS = 11
 
-# what is measured: how many files of which size the source has, what the target has beside them, and in which folder of the
-# source a file stands, by its number
-Shape = namedtuple("Shape", "about files size beside folder", defaults=(lambda number: (),))
+# what is measured: how many files of which size the source has, what the target has beside them, in which folder of the
+# source a file stands, by its number, and the switches. What is purged the target has in place of the source
+Shape = namedtuple("Shape", "about files size beside folder words", defaults=(lambda number: (), ("/S",)))
+
+
+def by_hundreds(number):
+    return (f"d{number // 100:06}",)
+
 
 SHAPES = {
     "short": Shape("files of 1 KiB, nothing on the target", 10_000, 1024, None),
@@ -38,7 +44,7 @@ SHAPES = {
         20_000,
         0,
         None,
-        lambda number: (f"d{number // 100:06}",),
+        by_hundreds,
     ),
     "deep": Shape(
         "files without bytes in one folder below 58 others, nothing on the target",
@@ -46,6 +52,22 @@ SHAPES = {
         0,
         None,
         lambda number: ("a",) * 59,
+    ),
+    "purged": Shape(
+        "files without bytes, a hundred in each folder, on the target alone, under /MIR",
+        20_000,
+        0,
+        "purged",
+        by_hundreds,
+        ("/MIR",),
+    ),
+    "moved": Shape(
+        "files without bytes, a hundred in each folder, nothing on the target, under /MOVE /E",
+        20_000,
+        0,
+        None,
+        by_hundreds,
+        ("/MOVE", "/E"),
     ),
 }
 
@@ -61,6 +83,18 @@ def file_line(name, written, data):
 
 def folder_line(names):
     return "\t".join(["D", "\\".join(names), "-", MOMENT, MOMENT, "-", "-", "-"]) + "\n"
+
+
+def folders_and_files(shape, files):
+    """The files by their numbers, each behind the folders that come before it."""
+    for number in range(files):
+        yield from map(folder_line, new_folders(shape, number))
+        yield source_line(number, shape)
+
+
+def has_extras(shape):
+    """Whether the target has entries that the source has not."""
+    return shape.beside not in (None, "standing")
 
 
 def source_line(number, shape, letter="f"):
@@ -81,6 +115,8 @@ def folder_count(shape, files):
 
 def target_lines(shape, files):
     """What the target has at the start."""
+    if shape.beside == "purged":
+        return folders_and_files(shape, files)
     if shape.beside == "standing":
         return (file_line(f"F{number:08}", BEFORE, content(-number - 1, shape.size + 10)) for number in range(files))
     if shape.beside:
@@ -90,8 +126,10 @@ def target_lines(shape, files):
 
 def wanted_lines(shape, files):
     """What the target has at the end: the source's files, under the spelling that stood, and what was beside them."""
+    if shape.beside == "purged":
+        return
     letter = "F" if shape.beside == "standing" else "f"
-    extras = target_lines(shape, files) if shape.beside and shape.beside != "standing" else iter(())
+    extras = target_lines(shape, files) if has_extras(shape) else iter(())
     for number in range(files):
         yield from map(folder_line, new_folders(shape, number))
         yield source_line(number, shape, letter)
@@ -103,9 +141,8 @@ def wanted_lines(shape, files):
 def write_site(path, shape, files):
     with open(path, "w", newline="\n") as out:
         out.write(f"SITE\t1\nMOMENT\t{MOMENT}\nSOURCE\n")
-        for number in range(files):
-            out.writelines(map(folder_line, new_folders(shape, number)))
-            out.write(source_line(number, shape))
+        if shape.beside != "purged":
+            out.writelines(folders_and_files(shape, files))
         out.write("TARGET\n")
         out.writelines(target_lines(shape, files))
         out.write("RECORD\t-\nEND\n")
@@ -114,11 +151,11 @@ def write_site(path, shape, files):
 def drill(text, shape, files):
     """Runs drill over a site text, and gives its seconds and its peak memory in bytes."""
     with open(text, "rb") as site, tempfile.TemporaryFile() as out:
-        program = subprocess.Popen([PROGRAM, "SRC", "DST", "/S"], stdin=site, stdout=out)
+        program = subprocess.Popen([PROGRAM, "SRC", "DST", *shape.words], stdin=site, stdout=out)
         _, status, usage = os.wait4(program.pid, 0)
         seconds = usage.ru_utime + usage.ru_stime
         program.returncode = os.waitstatus_to_exitcode(status)
-        wanted = 3 if shape.beside and shape.beside != "standing" else 1
+        wanted = (0 if shape.beside == "purged" else 1) + (2 if has_extras(shape) else 0)
         if program.returncode != wanted:
             sys.exit(f"drill ended with {program.returncode}")
         check_output(out, shape, files)
@@ -126,12 +163,16 @@ def drill(text, shape, files):
 
 
 def check_output(out, shape, files):
-    """Looks whether the target at the end is what it has to be. It goes line by line: a process that is started counts
-    the memory of the one that starts it as its own peak."""
+    """Looks whether the target at the end is what it has to be, and a source that was moved is empty. It goes line by line:
+    a process that is started counts the memory of the one that starts it as its own peak."""
     out.seek(0)
+    before = None
     for line in out:
         if line == b"TARGET\n":
             break
+        before = line
+    if "/MOVE" in shape.words and before != b"SOURCE\n":
+        sys.exit("the source keeps what was moved")
     for wanted in wanted_lines(shape, files):
         if out.readline() != wanted.encode():
             sys.exit("the target is not the one that the rules define")
@@ -151,7 +192,9 @@ def measure(shape, folder):
         peak = max(run[1] for run in runs)
         ratio = "" if before is None else f", {seconds / before:.2f} times the time before"
         size = text.stat().st_size
-        entries = 2 * (files + folder_count(shape, files)) + (files if shape.beside and shape.beside != "standing" else 0)
+        sides = 1 if shape.beside == "purged" or "/MOVE" in shape.words else 2
+        extras = files if has_extras(shape) and shape.beside != "purged" else 0
+        entries = sides * (files + folder_count(shape, files)) + extras
         print(
             f"    {files:,} files: {size / MB:.1f} MB, {seconds:.2f} s{ratio}; peak {peak / MB:.0f} MB,"
             f" {peak / size:.2f} of the text, {peak / entries:,.0f} bytes an entry",

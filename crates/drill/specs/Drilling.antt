@@ -76,8 +76,9 @@ pub record IsCarriedOut (words : List (List ℕ)) (moment : ℕ) (start : Told) 
 abbrev pub IsRun : List (List ℕ) → ℕ → Told → End → Type 0
 IsRun words moment start end = IsRefused words moment start end ⊎ IsCarriedOut words moment start end
 
--- what a run of a job leaves that memory stopped: each key of the target as it was, or as its item has begun to change
--- it; all else as it was; and nothing reported before both trees are the goals
+-- what a run of a job leaves that memory stopped: each key of the target as it was, or as its item has begun to change it,
+-- and each key of the source as it was or with its goal; all else as it was; and nothing reported before both trees are the
+-- goals
 pub record IsCutIn (job : Job) (moment : ℕ) (start : Told) (end : End) : Type 0 where
   pub leaves : RunLeaves job moment start end.now NoMemory
   pub report : AppendsFront [] (report_of (items_at job start moment)) end.report

@@ -1,5 +1,5 @@
--- Where directories are made, the files in them have their places.
-use Rattle.std.proofs.Common.{◌≡◌, ◌≢◌, ℕ, ◌<◌, Bool, true, false, ◌&&◌, List, [], ◌∷◌, Option, Some, None, length, get_or, take, inl, inr, refl, sym, ap, subst, ◌∙◌, arith}
+-- Where directories are made, and what is to be purged is gone, files have their places.
+use Rattle.std.proofs.Common.{◌≡◌, ◌≢◌, ℕ, ◌<◌, Bool, true, ◌&&◌, List, [], ◌∷◌, Option, Some, None, length, get_or, take, inl, inr, refl, sym, ap, subst, ◌∙◌, arith}
 use Rattle.std.proofs.lemmas.Bool.{true≢false}
 use Rattle.std.proofs.lemmas.List.{get_or_default, length-map, take-map}
 use Rattle.std.specs.Prelude.{IfSome, IsSomeAnd, if◌then◌else◌}
@@ -18,15 +18,19 @@ use Rattle.rc_class.specs.Items.{are_rising, item_at}
 use Rattle.rc_class.specs.Sides.{Acts, Beside, HasKind, IsPlace, IsReady, is_put, may_act}
 use Rattle.rc_class.specs.Units.{is_copy}
 use Rattle.rc_volume.specs.Site.{Told}
-use Rattle.rc_finish.specs.Passes.{begun_directory, directory_at, is_make, made, pass_at, AreBelowRoot, AreFit, HasPassed}
-use Rattle.rc_copy.specs.Copying.{AreCopyable, AreDecided, HasPlace, IfCopyable}
+use Rattle.rc_finish.specs.Passes.{begun_directory, directory_at, is_make, is_purge, pass_at, AreBelowRoot, AreFit, HasPassed}
+use Rattle.rc_copy.specs.Copying.{AreCopyable, AreDecided, HasPlace, IfCopyable, readied}
 use Rattle.rc_copy.proofs.ItemLemmas.{found_own}
 
 -- Acts
 
-no_make : (does : Act) → is_copy does ≡ true → is_make does ≡ false
-no_make act.Copy copies = refl
-no_make _ copies = absurd (true≢false (sym copies))
+-- what an act makes of what stands at a path, before files are copied
+abbrev readied_by : Act → List (List ℕ) → Option Node → Option Node
+readied_by does path target = if is_purge does then None else if is_make does then directory_at path target else target
+
+copied_stays : (does : Act) (path : List (List ℕ)) (target : Option Node) → is_copy does ≡ true → readied_by does path target ≡ target
+copied_stays act.Copy path target copies = refl
+copied_stays _ path target copies = absurd (true≢false (sym copies))
 
 puts : (does : Act) → is_copy does ≡ true → is_put does ≡ true
 puts act.Copy copies = refl
@@ -38,14 +42,14 @@ dir_kind File b e = absurd (true≢false (sym e))
 
 -- Directories
 
--- a directory that stands is passed over
-dir_stays : (o : Option Item) (source : Option Node) (node : Node) → pass_at made o source (Some node) ≡ Some node
-dir_stays None source node = refl
-dir_stays (Some item) source node = by (is_make item.act)
-  where
-    by : (b : Bool) → (if b then directory_at item.path (Some node) else Some node) ≡ Some node
-    by true = refl
-    by false = refl
+-- a directory that stands is passed over, but where it is purged
+stays_by : (does : Act) (path : List (List ℕ)) (node : Node) → (does ≡ act.Purge → ⊥) → readied_by does path (Some node) ≡ Some node
+stays_by act.Purge path node kept = absurd (kept refl)
+stays_by _ path node kept = refl
+
+dir_stays : (o : Option Item) (source : Option Node) (node : Node) → (Acts act.Purge o → ⊥) → pass_at readied o source (Some node) ≡ Some node
+dir_stays None source node kept = refl
+dir_stays (Some item) source node kept = stays_by item.act item.path node kept
 
 abbrev Stands : Option Node → Type 0
 Stands o = IfSome o (λ node. node.kind ≡ Dir) × (o ≢ None)
@@ -56,22 +60,22 @@ none_some x e = cc
 is_standing : (o : Option Node) (node : Node) → o ≡ Some node → node.kind ≡ Dir → Stands o
 is_standing o node e kind = subst Stands (sym e) (kind, none_some node)
 
-kept_standing : (o : Option Item) (source target now : Option Node) → now ≡ pass_at made o source target → HasKind Dir target → Stands now
-kept_standing o source None now e kind = absurd kind
-kept_standing o source (Some node) now e kind = is_standing now node (e ∙ dir_stays o source node) kind
+kept_standing : (o : Option Item) (source target now : Option Node) → now ≡ pass_at readied o source target → HasKind Dir target → (Acts act.Purge o → ⊥) → Stands now
+kept_standing o source None now e kind kept = absurd kind
+kept_standing o source (Some node) now e kind kept = is_standing now node (e ∙ dir_stays o source node kept) kind
 
 begun_is_dir : (path : List (List ℕ)) (target : Option Node) → IfSome target (λ node. node.kind ≡ Dir) → (begun_directory path target).kind ≡ Dir
 begun_is_dir path None kind = refl
 begun_is_dir path (Some node) kind = kind
 
-made_standing : (item : Item) (source target now : Option Node) → now ≡ pass_at made (Some item) source target → item.act ≡ act.Make → may_act item.class item.facts.kind item.act ≡ true → IsReady item.act item.facts.kind target → Stands now
+made_standing : (item : Item) (source target now : Option Node) → now ≡ pass_at readied (Some item) source target → item.act ≡ act.Make → may_act item.class item.facts.kind item.act ≡ true → IsReady item.act item.facts.kind target → Stands now
 made_standing item source target now e makes allowed ready =
     let fits : is_dir item.facts.kind && is_lonely item.class ≡ true = subst (λ (a : Act). may_act item.class item.facts.kind a ≡ true) makes allowed in
     let kind = dir_kind item.facts.kind (is_lonely item.class) fits in
     let is : IfSome target (λ node. node.kind ≡ Dir) =
     subst (λ (k : Kind). IfSome target (λ node. node.kind ≡ k)) kind (subst (λ (a : Act). IsReady a item.facts.kind target) makes ready) in
     is_standing now (begun_directory item.path target)
-    (e ∙ ap (λ (a : Act). if is_make a then directory_at item.path target else target) makes)
+    (e ∙ ap (λ (a : Act). readied_by a item.path target) makes)
     (begun_is_dir item.path target is)
 
 -- The directory of a file
@@ -86,20 +90,20 @@ parent_key (name ∷ names) parent e =
     same_some : (x y : List (List ℕ)) → Some x ≡ Some y → x ≡ y
     same_some x y h = cc
 
-place_made : (items : List Item) (start now : Told) (above : List (List ℕ)) → AreFit items start → AreDecided items start → HasPassed made items start now.target → IsPlace (item_at items) start.target above → IsDirectory now.target above
+place_made : (items : List Item) (start now : Told) (above : List (List ℕ)) → AreFit items start → AreDecided items start → HasPassed readied items start now.target → IsPlace (item_at items) start.target above → IsDirectory now.target above
 place_made items start now [] fit decided passed place = tt
 place_made items start now (name ∷ names) fit decided passed (inl stays) =
-    kept_standing (item_at items (name ∷ names)) (get start.source (name ∷ names)) (get start.target (name ∷ names)) (get now.target (name ∷ names)) (passed (name ∷ names)) stays.0
+    kept_standing (item_at items (name ∷ names)) (get start.source (name ∷ names)) (get start.target (name ∷ names)) (get now.target (name ∷ names)) (passed (name ∷ names)) stays.0 stays.1
 place_made items start now (name ∷ names) fit decided passed (inr makes) = by (item_at items (name ∷ names)) refl makes
   where
     by : (o : Option Item) → item_at items (name ∷ names) ≡ o → Acts act.Make o → Stands (get now.target (name ∷ names))
     by None e h = absurd h
     by (Some item) e h =
         made_standing item (get start.source (name ∷ names)) (get start.target (name ∷ names)) (get now.target (name ∷ names))
-        (passed (name ∷ names) ∙ ap (λ o. pass_at made o (get start.source (name ∷ names)) (get start.target (name ∷ names))) e)
+        (passed (name ∷ names) ∙ ap (λ o. pass_at readied o (get start.source (name ∷ names)) (get start.target (name ∷ names))) e)
         h (decided (name ∷ names) item e).1 (fit (name ∷ names) item e).0.target_has
 
-has_place : (items : List Item) (start now : Told) (item : Item) → AreFit items start → AreDecided items start → HasPassed made items start now.target → item_at items (key_of item.path) ≡ Some item → is_copy item.act ≡ true → 0 < length item.path → HasPlace now.target item.path
+has_place : (items : List Item) (start now : Told) (item : Item) → AreFit items start → AreDecided items start → HasPassed readied items start now.target → item_at items (key_of item.path) ≡ Some item → is_copy item.act ≡ true → 0 < length item.path → HasPlace now.target item.path
 has_place items start now item fit decided passed own copies below = by (parent_of item.path) refl
   where
     some_parent : (names : List (List ℕ)) → 0 < length names → parent_of names ≡ None → ⊥
@@ -115,7 +119,7 @@ has_place items start now item fit decided passed own copies below = by (parent_
 -- What a copy asks
 
 -- both sides as at the start, and the place
-pub copyable_behind : (items : List Item) (start now : Told) → are_rising items ≡ true → AreBelowRoot items → AreFit items start → AreDecided items start → now.source ≡ start.source → HasPassed made items start now.target → AreCopyable now items
+pub copyable_behind : (items : List Item) (start now : Told) → are_rising items ≡ true → AreBelowRoot items → AreFit items start → AreDecided items start → now.source ≡ start.source → HasPassed readied items start now.target → AreCopyable now items
 copyable_behind items start now rising below fit decided same passed k d l =
     at (get_or items k d) (found_own items k (get_or items k d) rising l (get_or_default items k d (get_or items k d) l)) (below k d l)
   where
@@ -124,8 +128,8 @@ copyable_behind items start now rising below fit decided same passed k d l =
         let key = key_of item.path in
         let sides = decided key item own in
         let stays : get now.target key ≡ get start.target key =
-        passed key ∙ ap (λ o. pass_at made o (get start.source key) (get start.target key)) own
-        ∙ ap (λ (b : Bool). if b then directory_at item.path (get start.target key) else get start.target key) (no_make item.act copies) in
+        passed key ∙ ap (λ o. pass_at readied o (get start.source key) (get start.target key)) own
+        ∙ copied_stays item.act item.path (get start.target key) copies in
         record {
           beside =
               subst (λ (tree : Tree). Beside item.class item (get tree key) (get now.target key)) (sym same)

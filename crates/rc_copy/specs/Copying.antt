@@ -23,7 +23,7 @@ use Rattle.rc_volume.specs.Frames.{ChangesAt}
 use Rattle.rc_volume.specs.Images.{IsOnlyTree}
 use Rattle.rc_volume.specs.Log.{LogsOn}
 use Rattle.rc_volume.specs.Site.{Change, Becomes, Comes, Maybe, Told, Turns, Seen, ReadsFrom, fresh_file, node_at, with_props}
-use Rattle.rc_finish.specs.Passes.{Pass}
+use Rattle.rc_finish.specs.Passes.{Pass, made, purged}
 use Rattle.rc_copy.specs.declared.err.CopyErr.{CopyErr}
 use Rattle.rc_copy.specs.declared.err.CopyErr.TheVariants as copy_err
 use Rattle.rc_copy.specs.declared.copying.Copying.{Copying}
@@ -37,6 +37,10 @@ goal_under copying item source target = target_goal copying.rules copying.with_b
 -- a file that is to be copied gets its goal, and all else stays
 abbrev pub copied : Copying → Pass
 copied copying item source target = if is_copy item.act then goal_under copying (Some item) source target else target
+
+-- directories are made, and what is to be purged is gone
+abbrev pub readied : Pass
+readied item source target = purged item source (made item source target)
 
 -- the properties of a copy of one file over another, or of a fresh one
 abbrev pub finished_props : Copying → Item → Node → Node → Props

@@ -1,5 +1,5 @@
 -- What a decided item says of both sides at its key.
-use Rattle.std.proofs.Common.{◌≡◌, ℕ, Bool, true, false, cond, not, ◌||◌, List, Option, Some, None, refl, sym, ap, ◌∙◌}
+use Rattle.std.proofs.Common.{◌≡◌, ℕ, Bool, true, false, cond, not, ◌&&◌, ◌||◌, List, Option, Some, None, refl, sym, ap, ◌∙◌}
 use Rattle.rc_tree.specs.declared.attr.Kind.{Kind}
 use Rattle.rc_tree.specs.declared.attr.Kind.TheVariants.{File, Dir}
 use Rattle.rc_tree.specs.Path.{last_name}
@@ -16,7 +16,7 @@ use Rattle.rc_class.specs.Class.{class_of_files, class_of_kinds, facts_of, is_sa
 use Rattle.rc_class.specs.Sides.{Beside, HasKind, IsEntryOf, may_act, other_kind}
 use Rattle.rc_job.specs.declared.job.Job.{Job}
 use Rattle.rc_filter.specs.Acts.{class_act, differ, extra_act, grain_of, is_all, is_mended, kept_for, lonely_act, standing_act}
-use Rattle.rc_filter.specs.Decided.{act_for, extra_item, source_act, source_item}
+use Rattle.rc_filter.specs.Decided.{Around, act_for, extra_item, source_act, source_item}
 use Rattle.rc_filter.specs.Matching.{is_excluded_directory, is_excluded_file, is_named}
 use Rattle.rc_filter.proofs.FileActs.{both_sides_fit, of_class_act, one_side_fits}
 
@@ -51,16 +51,19 @@ same_fits true differs = refl
 same_fits false true = refl
 same_fits false false = refl
 
-extra_file_fits : (left excluded unnamed : Bool) → may_act class.Extra File (cond left (act.Keep reason.Class) (cond excluded (act.Keep reason.Excluded) (cond unnamed (act.Keep reason.NotNamed) act.Extra))) ≡ true
-extra_file_fits true excluded unnamed = refl
-extra_file_fits false true unnamed = refl
-extra_file_fits false false true = refl
-extra_file_fits false false false = refl
+extra_file_fits : (left excluded unnamed reported purged : Bool) → may_act class.Extra File (cond left (act.Keep reason.Class) (cond excluded (act.Keep reason.Excluded) (cond unnamed (cond reported act.Extra (act.Keep reason.NotNamed)) (cond purged act.Purge act.Extra)))) ≡ true
+extra_file_fits true excluded unnamed reported purged = refl
+extra_file_fits false true unnamed reported purged = refl
+extra_file_fits false false true true purged = refl
+extra_file_fits false false true false purged = refl
+extra_file_fits false false false reported true = refl
+extra_file_fits false false false reported false = refl
 
-extra_directory_fits : (left excluded : Bool) → may_act class.Extra Dir (cond left (act.Keep reason.Class) (cond excluded (act.Keep reason.Excluded) act.Extra)) ≡ true
-extra_directory_fits true excluded = refl
-extra_directory_fits false true = refl
-extra_directory_fits false false = refl
+extra_directory_fits : (left excluded purged : Bool) → may_act class.Extra Dir (cond left (act.Keep reason.Class) (cond excluded (act.Keep reason.Excluded) (cond purged act.Purge act.Extra))) ≡ true
+extra_directory_fits true excluded purged = refl
+extra_directory_fits false true purged = refl
+extra_directory_fits false false true = refl
+extra_directory_fits false false false = refl
 
 -- The side that has an entry alone
 
@@ -68,9 +71,9 @@ alone_fits : (job : Job) (moment : ℕ) (key : List (List ℕ)) (facts : Facts) 
 alone_fits job moment key facts some_below File = one_side_fits class.Lonely refl refl (kept_for job moment key facts class.Lonely)
 alone_fits job moment key facts some_below Dir = lonely_fits (is_excluded_directory job key) job.xl (is_all job.sub || some_below)
 
-pub extra_acts_fit : (job : Job) (key : List (List ℕ)) (k : Kind) → may_act class.Extra k (extra_act job key k) ≡ true
-extra_acts_fit job key File = extra_file_fits job.xx (is_excluded_file job key) (not (is_named job key || job.all_extras))
-extra_acts_fit job key Dir = extra_directory_fits job.xx (is_excluded_directory job key)
+pub extra_acts_fit : (job : Job) (key : List (List ℕ)) (k : Kind) (all_purged : Bool) → may_act class.Extra k (extra_act job key k all_purged) ≡ true
+extra_acts_fit job key File all_purged = extra_file_fits job.xx (is_excluded_file job key) (not (is_named job key)) job.all_extras job.purge
+extra_acts_fit job key Dir all_purged = extra_directory_fits job.xx (is_excluded_directory job key) (all_purged && job.purge)
 
 -- Both sides
 
@@ -93,9 +96,9 @@ both_fit job moment key node there Dir File = refl
 both_fit job moment key node there Dir Dir = same_fits (is_excluded_directory job key) (differ job.dcopy node.props there.props)
 
 -- the act of what the source has is one of its class and kind
-pub acts_fit : (job : Job) (moment : ℕ) (key path : List (List ℕ)) (some_below : Bool) (node : Node) (target : Option Node) → (let item = source_item job moment key path some_below node target in may_act item.class item.facts.kind item.act ≡ true)
-acts_fit job moment key path some_below node None = alone_fits job moment key (facts_of node) some_below node.kind
-acts_fit job moment key path some_below node (Some there) = both_fit job moment key node there node.kind there.kind
+pub acts_fit : (job : Job) (moment : ℕ) (key path : List (List ℕ)) (near : Around) (node : Node) (target : Option Node) → (let item = source_item job moment key path near node target in may_act item.class item.facts.kind item.act ≡ true)
+acts_fit job moment key path near node None = alone_fits job moment key (facts_of node) near.some_copied node.kind
+acts_fit job moment key path near node (Some there) = both_fit job moment key node there node.kind there.kind
 
 -- What stands beside
 
@@ -110,16 +113,16 @@ beside_kinds item node there grain entry same File Dir is other = (entry, other 
 beside_kinds item node there grain entry same Dir File is other = (entry, other ∙ sym (ap other_kind (same ∙ is)))
 beside_kinds item node there grain entry same Dir Dir is other = (entry, other ∙ sym is ∙ sym same)
 
-pub source_beside : (job : Job) (moment : ℕ) (key path : List (List ℕ)) (some_below : Bool) (node : Node) (target : Option Node) → last_name path ≡ node.spelling → (let item = source_item job moment key path some_below node target in Beside item.class item (Some node) target)
-source_beside job moment key path some_below node None named =
+pub source_beside : (job : Job) (moment : ℕ) (key path : List (List ℕ)) (near : Around) (node : Node) (target : Option Node) → last_name path ≡ node.spelling → (let item = source_item job moment key path near node target in Beside item.class item (Some node) target)
+source_beside job moment key path near node None named =
     (record { node = node; stands = refl; facts = refl; spelled = named }, refl)
-source_beside job moment key path some_below node (Some there) named =
-    beside_kinds (source_item job moment key path some_below node (Some there)) node there (grain_of job) (record { node = node; stands = refl; facts = refl; spelled = named }) refl node.kind there.kind refl refl
+source_beside job moment key path near node (Some there) named =
+    beside_kinds (source_item job moment key path near node (Some there)) node there (grain_of job) (record { node = node; stands = refl; facts = refl; spelled = named }) refl node.kind there.kind refl refl
 
-pub extra_beside : (job : Job) (key path : List (List ℕ)) (node : Node) → last_name path ≡ node.spelling → Beside class.Extra (extra_item job key path node) None (Some node)
-extra_beside job key path node named = (refl, record { node = node; stands = refl; facts = refl; spelled = named })
+pub extra_beside : (job : Job) (key path : List (List ℕ)) (near : Around) (node : Node) → last_name path ≡ node.spelling → Beside class.Extra (extra_item job key path near node) None (Some node)
+extra_beside job key path near node named = (refl, record { node = node; stands = refl; facts = refl; spelled = named })
 
--- Nothing is removed so far
+-- Nothing is removed that the source has
 
 class_keeps : (job : Job) (moment : ℕ) (key : List (List ℕ)) (facts : Facts) (c : Class) → class_act job moment key facts c ≡ act.Purge → ⊥
 class_keeps = of_class_act (λ does. does ≡ act.Purge → ⊥) (λ e. cc) (λ e. cc) (λ e. cc) (λ why _ e. cc)
@@ -148,18 +151,3 @@ source_keeps job moment key some_below node None =
     act_keeps node.kind _ _ (class_keeps job moment key (facts_of node) class.Lonely) (lonely_keeps (is_excluded_directory job key) job.xl (is_all job.sub || some_below))
 source_keeps job moment key some_below node (Some there) =
     act_keeps node.kind _ _ (class_keeps job moment key (facts_of node) (class_of_kinds node.kind there.kind (class_of_files (grain_of job) (facts_of node) (facts_of there)))) (standing_keeps job key node there there.kind)
-
-extra_file_keeps : (left excluded unnamed : Bool) → cond left (act.Keep reason.Class) (cond excluded (act.Keep reason.Excluded) (cond unnamed (act.Keep reason.NotNamed) act.Extra)) ≡ act.Purge → ⊥
-extra_file_keeps true excluded unnamed e = cc
-extra_file_keeps false true unnamed e = cc
-extra_file_keeps false false true e = cc
-extra_file_keeps false false false e = cc
-
-extra_directory_keeps : (left excluded : Bool) → cond left (act.Keep reason.Class) (cond excluded (act.Keep reason.Excluded) act.Extra) ≡ act.Purge → ⊥
-extra_directory_keeps true excluded e = cc
-extra_directory_keeps false true e = cc
-extra_directory_keeps false false e = cc
-
-pub extra_keeps : (job : Job) (key : List (List ℕ)) (k : Kind) → extra_act job key k ≡ act.Purge → ⊥
-extra_keeps job key File = extra_file_keeps job.xx (is_excluded_file job key) (not (is_named job key || job.all_extras))
-extra_keeps job key Dir = extra_directory_keeps job.xx (is_excluded_directory job key)

@@ -1,17 +1,18 @@
 -- How scope, and what is copied at or below a key, follow from what lies around it.
-use Rattle.std.proofs.Common.{◌≡◌, ◌≢◌, ℕ, Bool, true, false, ◌&&◌, ◌||◌, List, [], ◌∷◌, ◌++◌, Option, Some, None, length, take, drop, zero, suc, refl, sym, ap, ◌∙◌, append_assoc}
-use Rattle.std.proofs.lemmas.Bool.{true≢false}
-use Rattle.std.specs.Prelude.{is_some}
+use Rattle.std.proofs.Common.{◌≡◌, ◌≢◌, ℕ, ◌<◌, Bool, true, false, not, ◌&&◌, ◌||◌, List, [], ◌∷◌, ◌++◌, Option, Some, None, length, take, drop, zero, suc, refl, sym, ap, subst, ◌∙◌, arith, append_assoc, length-append}
+use Rattle.std.proofs.lemmas.Bool.{lt-ltb, ltb-true, true≢false}
+use Rattle.std.specs.Prelude.{IfSome, is_some}
 use Rattle.std.specs.List.{list_any}
 use Rattle.std.specs.Option.{option_map_or}
 use Rattle.std.specs.FinMap.{get, keys, contains_key-keys}
 use Rattle.std.specs.Ordering.{eq_by_cmp}
+use Rattle.rc_tree.specs.declared.attr.Kind.TheVariants.{Dir}
 use Rattle.rc_tree.specs.Path.{key_cmp}
-use Rattle.rc_tree.specs.Tree.{Node, Tree, kind_at}
-use Rattle.rc_tree.proofs.Fronts.{by_last, parent-more}
+use Rattle.rc_tree.specs.Tree.{Node, Tree, IsDirectory, IsTree, kind_at}
+use Rattle.rc_tree.proofs.Fronts.{above-more as entry_above, by_last, parent-more}
 use Rattle.rc_tree.proofs.Keys.{key_itself, same_key}
 use Rattle.rc_job.specs.declared.job.Job.{Job}
-use Rattle.rc_filter.specs.Decided.{copies, is_at_or_below, is_copied, some_copied}
+use Rattle.rc_filter.specs.Decided.{copies, is_at_or_below, is_below, is_copied, some_copied, some_stays}
 use Rattle.rc_filter.specs.Scope.{each_front, enters, is_above_in_scope, is_in_scope}
 
 abbrev Key : Type 0
@@ -75,14 +76,18 @@ scope-above job source target key =
     (λ names name _ _ is. above-more job source target names name ∙ first_of (is_in_scope job source target names) _ (sym (scope-more job source target names name) ∙ is))
     key
 
--- Files that are copied
+-- Keys that pass a test
 
-found : (test : Key → Bool) (all : List Key) → list_any test all ≡ true → (key : Key) × (test key ≡ true)
+or_true : (a b : Bool) → b ≡ true → (a || b) ≡ true
+or_true true b e = refl
+or_true false b e = e
+
+found : (test : Key → Bool) (all : List Key) → list_any test all ≡ true → (key : Key) × (test key ≡ true) × (list_any (eq_by_cmp key_cmp key) all ≡ true)
 found test [] e = absurd (true≢false (sym e))
 found test (key ∷ all) e =
-    elim (test key) as (λ b. test key ≡ b → (b || list_any test all) ≡ true → (key : Key) × (test key ≡ true)) [
-      | true ↦ λ is _. (key, is)
-      | false ↦ λ _ later. found test all later
+    elim (test key) as (λ b. test key ≡ b → (b || list_any test all) ≡ true → (at : Key) × (test at ≡ true) × ((eq_by_cmp key_cmp at key || list_any (eq_by_cmp key_cmp at) all) ≡ true)) [
+      | true ↦ λ is _. (key, is, ap (λ b. b || list_any (eq_by_cmp key_cmp key) all) (key_itself key))
+      | false ↦ λ _ later. let at = found test all later in (at.0, at.1, or_true (eq_by_cmp key_cmp at.0 key) (list_any (eq_by_cmp key_cmp at.0) all) at.2)
     ] refl e
 
 finds : (test : Key → Bool) (all : List Key) (key : Key) → list_any (eq_by_cmp key_cmp key) all ≡ true → test key ≡ true → list_any test all ≡ true
@@ -92,10 +97,6 @@ finds test (other ∷ all) key e is =
       | true ↦ λ same _. ap (λ b. b || list_any test all) (ap test (sym (same_key key other same)) ∙ is)
       | false ↦ λ _ later. or_true (test other) (list_any test all) (finds test all key later is)
     ] refl e
-  where
-    or_true : (a b : Bool) → b ≡ true → (a || b) ≡ true
-    or_true true b e = refl
-    or_true false b e = e
 
 front : (key names : Key) → take (length key) (key ++ names) ≡ key
 front [] names = refl
@@ -105,6 +106,8 @@ whole : (n : ℕ) (key : Key) → take n key ++ drop n key ≡ key
 whole zero key = refl
 whole (suc n) [] = refl
 whole (suc n) (name ∷ key) = ap (λ rest. name ∷ rest) (whole n key)
+
+-- Files that are copied
 
 stands : (job : Job) (moment : ℕ) (key : Key) (source target : Option Node) → copies job moment key source target ≡ true → is_some source ≡ true
 stands job moment key None target e = e
@@ -126,3 +129,103 @@ below_copied job source target moment key is =
     let same : take (length key) at.0 ≡ key = same_key (take (length key) at.0) key (first_of (is_at_or_below key at.0) _ at.1) in
     let split : key ++ drop (length key) at.0 ≡ at.0 = ap (λ k. k ++ drop (length key) at.0) (sym same) ∙ whole (length key) at.0 in
     (drop (length key) at.0, ap (λ k. is_copied job source target moment k) split ∙ second_of (is_at_or_below key at.0) _ at.1)
+
+-- What stays below a key
+
+longer : (key names : Key) (name : List ℕ) → length key < length (key ++ name ∷ names)
+longer key names name = omega (arith, length-append key (name ∷ names))
+
+not_longer : (key : Key) → length key < length (key ++ []) → ⊥
+not_longer key more = omega (arith, length-append key [], more)
+
+below_key : (key names : Key) (name : List ℕ) → is_below key (key ++ name ∷ names) ≡ true
+below_key key names name =
+    both_of _ _
+    (ap (λ k. eq_by_cmp key_cmp k key) (front key (name ∷ names)) ∙ key_itself key)
+    (lt-ltb (length key) (length (key ++ name ∷ names)) (longer key names name))
+
+split_below : (above key : Key) → is_below above key ≡ true → (name : List ℕ) × (names : Key) × (key ≡ above ++ name ∷ names)
+split_below above key is =
+    let same : take (length above) key ≡ above = same_key (take (length above) key) above (first_of (is_at_or_below above key) _ is) in
+    by (drop (length above) key)
+    (sym (ap (λ k. k ++ drop (length above) key) (sym same) ∙ whole (length above) key))
+    (ltb-true (length above) (length key) (second_of (is_at_or_below above key) _ is))
+  where
+    by : (rest : Key) → key ≡ above ++ rest → length above < length key → (name : List ℕ) × (names : Key) × (key ≡ above ++ name ∷ names)
+    by [] e more = absurd (not_longer above (subst (λ k. length above < length k) e more))
+    by (name ∷ names) e more = (name, names, e)
+
+clash : (b : Bool) → not b ≡ true → b ≡ true → ⊥
+clash true e f = true≢false (sym e)
+clash false e f = true≢false (sym f)
+
+is_there : (found : Option Node) → found ≢ None → is_some found ≡ true
+is_there None some = absurd (some refl)
+is_there (Some node) some = refl
+
+not_none : (found : Option Node) → is_some found ≡ true → found ≢ None
+not_none None is none = true≢false (sym is)
+not_none (Some node) is none = cc
+
+module _ (passes : Key → Bool) (tree : Tree) where
+  -- where nothing stays, all below passes
+  pub none_stays : (key : Key) → not (some_stays passes tree key) ≡ true → (name : List ℕ) (names : Key) → get tree (key ++ name ∷ names) ≢ None → passes (key ++ name ∷ names) ≡ true
+  none_stays key none name names there =
+      let below = key ++ name ∷ names in
+      elim (passes below) as (λ b. passes below ≡ b → b ≡ true) [
+        | true ↦ λ _. refl
+        | false ↦ λ fails. absurd (clash (some_stays passes tree key) none
+            (finds (λ k. is_below key k && not (passes k)) (keys tree) below
+            (sym (contains_key-keys tree below) ∙ is_there (get tree below) there)
+            (both_of (is_below key below) (not (passes below)) (below_key key names name) (ap not fails))))
+      ] refl
+
+  -- and where all below passes, nothing stays
+  pub all_pass : (key : Key) → ((name : List ℕ) (names : Key) → get tree (key ++ name ∷ names) ≢ None → passes (key ++ name ∷ names) ≡ true) → not (some_stays passes tree key) ≡ true
+  all_pass key each =
+      elim (some_stays passes tree key) as (λ b. some_stays passes tree key ≡ b → not b ≡ true) [
+        | false ↦ λ _. refl
+        | true ↦ λ is.
+            let at = found (λ k. is_below key k && not (passes k)) (keys tree) is in
+            let split = split_below key at.0 (first_of (is_below key at.0) (not (passes at.0)) at.1) in
+            let there : get tree at.0 ≢ None = not_none (get tree at.0) (contains_key-keys tree at.0 ∙ at.2) in
+            absurd (clash (passes at.0) (second_of (is_below key at.0) (not (passes at.0)) at.1)
+            (ap passes split.2 ∙ each split.0 split.1 (subst (λ k. get tree k ≢ None) split.2 there)))
+      ] refl
+
+  -- nothing stays below what is below
+  pub none_lower : (key names : Key) (name : List ℕ) → not (some_stays passes tree key) ≡ true → not (some_stays passes tree (key ++ name ∷ names)) ≡ true
+  none_lower key names name none =
+      all_pass (key ++ name ∷ names)
+      (λ next rest there.
+      let same : (key ++ name ∷ names) ++ next ∷ rest ≡ key ++ (name ∷ (names ++ next ∷ rest)) = append_assoc key (name ∷ names) (next ∷ rest) in
+      ap passes same ∙ none_stays key none name (names ++ next ∷ rest) (subst (λ k. get tree k ≢ None) same there))
+
+-- What has something below it is a directory
+
+standing : (tree : Tree) (key : Key) → IsDirectory tree key → key ≢ [] → get tree key ≢ None
+standing tree [] is some = absurd (some refl)
+standing tree (name ∷ names) is some = is.1
+
+more : (key names : Key) (name : List ℕ) → key ++ name ∷ names ≢ []
+more [] names name e = cc
+more (first ∷ key) names name e = cc
+
+directory_over : (tree : Tree) (key : Key) (name : List ℕ) → IsTree tree → (names : Key) → get tree (key ++ name ∷ names) ≢ None → IsDirectory tree key
+directory_over tree key name is =
+    by_last (λ names. get tree (key ++ name ∷ names) ≢ None → IsDirectory tree key)
+    (entry_above tree key name is)
+    (λ names last up there.
+    let same : (key ++ name ∷ names) ++ last ∷ [] ≡ key ++ (name ∷ (names ++ last ∷ [])) = append_assoc key (name ∷ names) (last ∷ []) in
+    let above : IsDirectory tree (key ++ name ∷ names) = entry_above tree (key ++ name ∷ names) last is (subst (λ k. get tree k ≢ None) (sym same) there) in
+    up (standing tree (key ++ name ∷ names) above (more key names name)))
+
+kind_over : (tree : Tree) (key : Key) (node : Node) → get tree [] ≡ None → get tree key ≡ Some node → IsDirectory tree key → node.kind ≡ Dir
+kind_over tree [] node root here is = absurd (nowhere (sym root ∙ here))
+  where
+    nowhere : None ≡ Some node → ⊥
+    nowhere e = cc
+kind_over tree (name ∷ names) node root here is = subst (λ o. IfSome o (λ (n : Node). n.kind ≡ Dir)) here is.0
+
+pub has_below : (tree : Tree) (key : Key) (node : Node) (name : List ℕ) (names : Key) → IsTree tree → get tree key ≡ Some node → get tree (key ++ name ∷ names) ≢ None → node.kind ≡ Dir
+has_below tree key node name names is here there = kind_over tree key node is.0 here (directory_over tree key name is names there)

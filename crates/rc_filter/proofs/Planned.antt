@@ -15,7 +15,7 @@ use Rattle.rc_class.specs.Items.{keyed, item_at}
 use Rattle.rc_class.specs.Start.{IsPlanOf}
 use Rattle.rc_class.proofs.Plans.{same_items}
 use Rattle.rc_job.specs.declared.job.Job.{Job}
-use Rattle.rc_filter.specs.Decided.{decided_at, item_of, planned_items, some_copied, start_of}
+use Rattle.rc_filter.specs.Decided.{Around, around, decided_at, item_of, planned_items, start_of}
 use Rattle.rc_filter.specs.Scope.{decides, is_above_in_scope}
 
 abbrev Key : Type 0
@@ -113,15 +113,15 @@ find_both (x ∷ es) fs q e =
       | false ↦ λ is. find_both es fs q is
     ] e
 
-nothing_there : (job : Job) (moment : ℕ) (key ours theirs : Key) (some above : Bool) (source target : Option Node) → source ≡ None → target ≡ None → cond (decides job key (option_map (λ (node : Node). node.kind) source) (option_map (λ (node : Node). node.kind) target) && above) (item_of job moment key ours theirs some source target) None ≡ None
-nothing_there job moment key ours theirs some above None None e f = refl
-nothing_there job moment key ours theirs some above None (Some node) e f = absurd (some_none node (sym f))
-nothing_there job moment key ours theirs some above (Some node) target e f = absurd (some_none node (sym e))
+nothing_there : (job : Job) (moment : ℕ) (key ours theirs : Key) (near : Around) (above : Bool) (source target : Option Node) → source ≡ None → target ≡ None → cond (decides job key (option_map (λ (node : Node). node.kind) source) (option_map (λ (node : Node). node.kind) target) && above) (item_of job moment key ours theirs near source target) None ≡ None
+nothing_there job moment key ours theirs near above None None e f = refl
+nothing_there job moment key ours theirs near above None (Some node) e f = absurd (some_none node (sym f))
+nothing_there job moment key ours theirs near above (Some node) target e f = absurd (some_none node (sym e))
 
 undecided : (job : Job) (source target : Tree) (moment : ℕ) (q : Key) → get (from_entries {R = key_cmp} (entries source ++ entries target)) q ≡ None → decided_at job source target moment q ≡ None
 undecided job source target moment q e =
     let apart = find_both (entries source) (entries target) q (sym (get-from_entries key_cmp-total (entries source ++ entries target) q) ∙ e) in
-    nothing_there job moment q (spelled source q) (spelled target q) (some_copied job source target moment q) (is_above_in_scope job source target q) (get source q) (get target q) (get-entries source q ∙ apart.0) (get-entries target q ∙ apart.1)
+    nothing_there job moment q (spelled source q) (spelled target q) (around job source target moment q) (is_above_in_scope job source target q) (get source q) (get target q) (get-entries source q ∙ apart.0) (get-entries target q ∙ apart.1)
 
 known : (found : Option Node) (answer : Option Item) → (found ≡ None → answer ≡ None) → where_found found answer ≡ answer
 known None answer h = sym (h refl)

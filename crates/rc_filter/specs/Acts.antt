@@ -8,7 +8,7 @@ use Rattle.rc_tree.specs.Tree.{Node}
 use Rattle.rc_class.specs.declared.class.Class.{Class}
 use Rattle.rc_class.specs.declared.class.Class.TheVariants as class
 use Rattle.rc_class.specs.declared.decision.Act.{Act}
-use Rattle.rc_class.specs.declared.decision.Act.TheVariants.{Copy, Make, Touch, Fix, Extra, Mismatch, Keep}
+use Rattle.rc_class.specs.declared.decision.Act.TheVariants.{Copy, Make, Touch, Fix, Purge, Extra, Mismatch, Keep}
 use Rattle.rc_class.specs.declared.decision.Reason.{Reason}
 use Rattle.rc_class.specs.declared.decision.Reason.TheVariants as reason
 use Rattle.rc_class.specs.declared.facts.Facts.{Facts}
@@ -121,21 +121,25 @@ kind_and_props_of node = (node.kind, node.props)
 
 abbrev pub extra_file_act : Job → List (List ℕ) → Act
 extra_file_act job key =
-    if job.xx then Keep reason.Class
-    else if is_excluded_file job key then Keep reason.Excluded
-    else if not (is_named job key || job.all_extras) then Keep reason.NotNamed
+    if is_excluded_file job key then Keep reason.Excluded
+    else if not (is_named job key) then (if job.all_extras then Extra else Keep reason.NotNamed)
+    else if job.purge then Purge
     else Extra
 
-abbrev pub extra_directory_act : Job → List (List ℕ) → Act
-extra_directory_act job key =
-    if job.xx then Keep reason.Class
-    else if is_excluded_directory job key then Keep reason.Excluded
+-- a directory, where all that the target has below it is removed or something stays
+abbrev pub extra_directory_act : Job → List (List ℕ) → Bool → Act
+extra_directory_act job key all_purged =
+    if is_excluded_directory job key then Keep reason.Excluded
+    else if all_purged && job.purge then Purge
     else Extra
+
+abbrev pub extra_act_of : Job → List (List ℕ) → Kind → Bool → Act
+extra_act_of job key File all_purged = extra_file_act job key
+extra_act_of job key Dir all_purged = extra_directory_act job key all_purged
 
 -- what a job does with an entry of this kind that the target alone has
-abbrev pub extra_act : Job → List (List ℕ) → Kind → Act
-extra_act job key File = extra_file_act job key
-extra_act job key Dir = extra_directory_act job key
+abbrev pub extra_act : Job → List (List ℕ) → Kind → Bool → Act
+extra_act job key kind all_purged = if job.xx then Keep reason.Class else extra_act_of job key kind all_purged
 
 -- Properties
 

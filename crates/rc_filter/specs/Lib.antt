@@ -2,4 +2,5 @@ pub mod Acts
 pub mod Decided
 pub mod Filters
 pub mod Matching
+pub mod Releases
 pub mod Scope

@@ -1,11 +1,11 @@
-//! The deciding calls. None of them takes memory.
+//! The calls that decide what the source has. None of them takes memory.
 
 ghost use Rattle.std.specs.Prelude.{◌≡◌, ◌⊎◌, true, option_map, IsSomeAnd};
 ghost use Rattle.std.specs.Option.{option_copied};
 ghost use Rattle.rc_tree.specs.declared.attr.Kind.TheVariants.{File};
 ghost use Rattle.rc_tree.specs.Path.{key_of};
 ghost use Rattle.rc_class.specs.Class.{class_against};
-ghost use Rattle.rc_filter.specs.Acts.{are_same_times, class_act, copies_bytes, differ, directory_act, extra_act, extra_directory_act, extra_file_act, file_act, grain_of, is_all, is_excluded_class, is_mended, kept_for, lonely_act, mended, rules_of, kind_and_props, standing_act};
+ghost use Rattle.rc_filter.specs.Acts.{are_same_times, class_act, copies_bytes, differ, directory_act, file_act, grain_of, is_all, is_excluded_class, is_mended, kept_for, lonely_act, mended, rules_of, kind_and_props, standing_act};
 ghost use Rattle.rc_filter.specs.Scope.{reaches};
 
 use crate::filters::{is_wrong_age, is_wrong_attr, is_wrong_size};
@@ -56,18 +56,6 @@ pub fn decide_dir(
     match target {
         None => lonely_act(job, path, some_copied),
         Some(there) => standing_act(job, path, source, there),
-    }
-}
-
-/// What a job does with what the target alone has at a decided path. `all_purged` says whether all below a directory is
-/// removed; nothing is removed so far.
-pub fn decide_extra(job: &Job, path: &Path, target: Facts, _all_purged: bool) -> Act
-    requires { (target.kind ≡ File) ⊎ (reaches job.now (key_of path.now) ≡ true) }
-    ensures { result ≡ extra_act job.now (key_of path.now) target.kind }
-{
-    match target.kind {
-        Kind::File => extra_file_act(job, path),
-        Kind::Dir => extra_directory_act(job, path),
     }
 }
 
@@ -225,32 +213,4 @@ fn are_same_times(source: &Props, target: &Props) -> bool
     ensures { result ≡ are_same_times source.now target.now }
 {
     source.created == target.created && source.written == target.written
-}
-
-// Extras
-
-fn extra_file_act(job: &Job, path: &Path) -> Act
-    ensures { result ≡ extra_file_act job.now (key_of path.now) }
-{
-    if job.xx {
-        Act::Keep(Reason::Class)
-    } else if is_excluded_file(job, path) {
-        Act::Keep(Reason::Excluded)
-    } else if !(is_named(job, path) || job.all_extras) {
-        Act::Keep(Reason::NotNamed)
-    } else {
-        Act::Extra
-    }
-}
-
-fn extra_directory_act(job: &Job, path: &Path) -> Act
-    ensures { result ≡ extra_directory_act job.now (key_of path.now) }
-{
-    if job.xx {
-        Act::Keep(Reason::Class)
-    } else if is_excluded_directory(job, path) {
-        Act::Keep(Reason::Excluded)
-    } else {
-        Act::Extra
-    }
 }

@@ -10,9 +10,9 @@ use Rattle.rc_tree.specs.Tree.{Node, Tree}
 use Rattle.rc_class.specs.declared.decision.Act.{Act}
 use Rattle.rc_class.specs.declared.item.Item.{Item}
 use Rattle.rc_class.specs.declared.rules.Rules.{Rules}
-use Rattle.rc_volume.specs.declared.site.Part.TheVariants as part
+use Rattle.rc_volume.specs.declared.site.Side.{Side}
 use Rattle.rc_volume.specs.declared.site.Side.TheVariants.{Target}
-use Rattle.rc_volume.specs.Faults.{free}
+use Rattle.rc_volume.specs.Faults.{free, part_for}
 use Rattle.rc_volume.specs.Frames.{ChangesAt, ChangesOnly, Looks}
 use Rattle.rc_volume.specs.Log.{EntryCall, Event, changed, set_props}
 use Rattle.rc_volume.specs.Site.{Change, Seen, Told, entry_of, node_at, with_props}
@@ -22,10 +22,10 @@ use Rattle.rc_finish.specs.Calls.{finish_cause, Gives, IsCallFor, LogsCalls, Log
 use Rattle.rc_finish.specs.Passes.{given, gives_props, props_given, with_given, Ends, Pass}
 use Rattle.rc_finish.proofs.PassLemmas.{counts_then}
 
-same_entry : (old : Entry) (node : Node) → Some old ≡ Some (entry_of node) → old ≡ entry_of node
+pub same_entry : (old : Entry) (node : Node) → Some old ≡ Some (entry_of node) → old ≡ entry_of node
 same_entry old node e = cc
 
-none_entry : (old : Entry) → Some old ≡ None → ⊥
+pub none_entry : (old : Entry) → Some old ≡ None → ⊥
 none_entry old e = cc
 
 -- the given properties are those that the act gives to what stands there
@@ -49,12 +49,12 @@ ends_so (Err e) one other o n weaker (inl stays) = inl stays
 ends_so (Err e) one other o n weaker (inr done) = inr (weaker done)
 
 -- a look, and then a change at one key
-pub look_then : (tells : Bool) (key : List (List ℕ)) (one other : Change) (retries : ℕ) (result : Result (Unit {0}) FinishErr) (start mid new : Seen) → Looks tells free start mid → (tells ≡ true → (n : Option Node) → one (node_at start.told Target key) n → other (node_at start.told Target key) n) → ChangesAt tells Target key (Ends result one) (finish_cause retries result) mid new → ChangesAt tells Target key (Ends result other) (finish_cause retries result) start new
-look_then tells key one other retries result start mid new f weaker g = record {
-  here = λ t. ends_so result one other (node_at start.told Target key) (node_at new.told Target key) (weaker t (node_at new.told Target key))
-      (subst (λ (told : Told). Ends result one (node_at told Target key) (node_at new.told Target key)) (f.told t) (g.here t));
-  elsewhere = λ t. subst (λ (told : Told). ChangesOnly Target key told new.told) (f.told t) (g.elsewhere t);
-  log = λ t. logs_behind part.Target _ _ _ (f.log t) (g.log t);
+pub look_then : (side : Side) (tells : Bool) (key : List (List ℕ)) (one other : Change) (retries : ℕ) (result : Result (Unit {0}) FinishErr) (start mid new : Seen) → Looks tells free start mid → (tells ≡ true → (n : Option Node) → one (node_at start.told side key) n → other (node_at start.told side key) n) → ChangesAt tells side key (Ends result one) (finish_cause retries result) mid new → ChangesAt tells side key (Ends result other) (finish_cause retries result) start new
+look_then side tells key one other retries result start mid new f weaker g = record {
+  here = λ t. ends_so result one other (node_at start.told side key) (node_at new.told side key) (weaker t (node_at new.told side key))
+      (subst (λ (told : Told). Ends result one (node_at told side key) (node_at new.told side key)) (f.told t) (g.here t));
+  elsewhere = λ t. subst (λ (told : Told). ChangesOnly side key told new.told) (f.told t) (g.elsewhere t);
+  log = λ t. logs_behind (part_for side) _ _ _ (f.log t) (g.log t);
   opened = g.opened ∙ f.opened;
   bound = g.bound ∙ f.bound;
   counts = counts_then retries result start.faults mid.faults new.faults f.counts g.counts;

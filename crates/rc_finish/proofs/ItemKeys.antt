@@ -158,3 +158,21 @@ found_behind (first ∷ items) (suc i) key item sorted e =
 
 pub back_found : (items : List Item) (i : ℕ) (key : List (List ℕ)) (item : Item) → are_rising items ≡ true → item_at (drop i items) key ≡ Some item → item_at items key ≡ Some item
 back_found items i key item rising e = found_behind items i key item (is_so _ rising) e
+
+-- what is found at a key above that of an item is among those behind it
+later_behind : (items : List Item) (i : ℕ) (item : Item) (key : List (List ℕ)) (below : Item) → Sorted items → i < length items → item ≡ get_or items i item → key_cmp (key_of item.path) key ≡ Less → item_at items key ≡ Some below → item_at (drop (suc i) items) key ≡ Some below
+later_behind [] i item key below sorted l is higher e = absurd (omega (arith, l))
+later_behind (first ∷ items) zero item key below sorted l is higher e =
+    sym (ap (λ b. cond b (Some first) (item_at items key)) (below_apart (key_of first.path) key (ap (λ (x : Item). key_cmp (key_of x.path) key) (sym is) ∙ higher))) ∙ e
+later_behind (first ∷ items) (suc i) item key below sorted l is higher e =
+    let above : key_cmp (key_of first.path) (key_of item.path) ≡ Less = ap (λ (x : Item). key_cmp (key_of first.path) (key_of x.path)) is ∙ below_get (key_of first.path) items i item (first_so _ _ sorted) (omega (arith, l)) in
+    later_behind items i item key below (second_so _ _ sorted) (omega (arith, l)) is higher
+    (elim (eq_by_cmp key_cmp key (key_of first.path)) as (λ b. eq_by_cmp key_cmp key (key_of first.path) ≡ b → cond b (Some first) (item_at items key) ≡ Some below → item_at items key ≡ Some below) [
+      | true ↦ λ same _. absurd (not_both (key_of first.path) (key_of item.path) above (ap (key_cmp (key_of item.path)) (sym (same_key key (key_of first.path) same)) ∙ higher))
+      | false ↦ λ _ later. later
+    ] refl e)
+
+pub back_has : (items : List Item) (i : ℕ) (item : Item) (key : List (List ℕ)) (below : Item) → are_rising items ≡ true → i < length items → item ≡ get_or items i item → key_cmp (key_of item.path) key ≡ Less → item_at items key ≡ Some below → item_at (drop (i + 1) items) key ≡ Some below
+back_has items i item key below rising l is higher e =
+    let on : suc i ≡ i + 1 = omega arith in
+    subst (λ (n : ℕ). item_at (drop n items) key ≡ Some below) on (later_behind items i item key below (is_so _ rising) l is higher e)

@@ -1,8 +1,11 @@
+pub mod FitLemmas
+pub mod FreeLemmas
 pub mod GiveLemmas
 pub mod ItemKeys
 pub mod MakeLemmas
 pub mod PassLemmas
 pub mod PlanLemmas
+pub mod RemovalLemmas
 pub mod Retries
 pub mod StopLemmas
 pub mod WaitLemmas

@@ -18,6 +18,7 @@ use Rattle.rc_class.specs.declared.decision.Act.TheVariants as act
 use Rattle.rc_class.specs.declared.item.Item.{Item}
 use Rattle.rc_class.specs.Items.{are_rising, item_at}
 use Rattle.rc_class.specs.Sides.{is_put, Acts, IsPlace, IsReady}
+use Rattle.rc_volume.specs.declared.site.Side.TheVariants.{Target}
 use Rattle.rc_volume.specs.Site.{Maybe, Told}
 use Rattle.rc_finish.specs.Passes.{directory_at, is_make, made, pass_at, AreFit, HasPassed, IsMakable, IsNow}
 use Rattle.rc_finish.proofs.ItemKeys.{front_has, front_missing, own_item}
@@ -119,7 +120,7 @@ kept_all : (o : Option Item) (source target : Option Node) → IsDir target → 
 kept_all None source target dir = dir
 kept_all (Some item) source target dir = kept_dir item source target dir
 
-made_dir : (item : Item) (source target : Option Node) → is_make item.act ≡ true → IfSome target (λ node. node.kind ≡ Dir) → IsDir (made item source target)
+pub made_dir : (item : Item) (source target : Option Node) → is_make item.act ≡ true → IfSome target (λ node. node.kind ≡ Dir) → IsDir (made item source target)
 made_dir item source target is ready =
     subst (λ (b : Bool). IsDir (cond b (directory_at item.path target) target)) (sym is) (by target ready)
   where
@@ -127,12 +128,12 @@ made_dir item source target is ready =
     by None ready = refl
     by (Some node) ready = ready
 
-ready_dir : (does : Act) (kind : Kind) (target : Option Node) → is_make does ≡ true → kind ≡ Dir → IsReady does kind target → IfSome target (λ node. node.kind ≡ Dir)
+pub ready_dir : (does : Act) (kind : Kind) (target : Option Node) → is_make does ≡ true → kind ≡ Dir → IsReady does kind target → IfSome target (λ node. node.kind ≡ Dir)
 ready_dir does kind target is dir ready =
     subst (λ (k : Kind). IfSome target (λ node. node.kind ≡ k)) dir
     (subst (λ (a : Act). IsReady a kind target) (is_make_so does is) ready)
 
-acting : (does : Act) (o : Option Item) → Acts does o → (item : Item) × (o ≡ Some item) × (item.act ≡ does)
+pub acting : (does : Act) (o : Option Item) → Acts does o → (item : Item) × (o ≡ Some item) × (item.act ≡ does)
 acting does None acts = absurd acts
 acting does (Some item) acts = (item, refl, acts)
 
@@ -160,7 +161,7 @@ module _ (items : List Item) (i : ℕ) (item : Item) (start : Told) (now : Tree)
       let fits = fit (key_of item.path) item (own_item items i item rising l is) in
       record {
         parent = above item.path refl some;
-        here = subst (λ (o : Option Node). IfSome o (λ node. node.kind ≡ Dir)) (sym (still made start (take i items) item now (front_missing items i item rising l is) sofar))
+        here = subst (λ (o : Option Node). IfSome o (λ node. node.kind ≡ Dir)) (sym (still Target made start (take i items) item now (front_missing items i item rising l is) sofar))
             (ready_dir item.act item.facts.kind (get start.target (key_of item.path)) own (fits.1 own) fits.0.target_has);
       }
     where

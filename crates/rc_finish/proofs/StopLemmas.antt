@@ -1,5 +1,5 @@
--- What a stop may leave of the target in the middle of a pass.
-use Rattle.std.proofs.Common.{◌≡◌, ◌⊎◌, ℕ, ◌≤◌, Bool, true, false, List, [], ◌∷◌, Option, Some, None, length, refl, sym, ap, subst, ◌∙◌, inl, inr, arith}
+-- What a stop may leave of a side in the middle of a pass.
+use Rattle.std.proofs.Common.{◌≡◌, ◌≢◌, ◌⊎◌, ℕ, ◌≤◌, Bool, true, false, List, [], ◌∷◌, Option, Some, None, length, refl, sym, ap, subst, ◌∙◌, inl, inr, arith}
 use Rattle.std.proofs.lemmas.Bool.{true≢false}
 use Rattle.std.proofs.lemmas.List.Elements.{All-head, All-tail}
 use Rattle.std.specs.Prelude.{All, option_map, IsSomeAnd}
@@ -9,15 +9,18 @@ use Rattle.rc_tree.specs.declared.props.Props.{Props}
 use Rattle.rc_tree.specs.Path.{key_cmp, key_of, last_name}
 use Rattle.rc_tree.specs.Tree.{Node, Tree}
 use Rattle.rc_tree.proofs.Keys.{key_itself, same_key}
+use Rattle.rc_class.specs.declared.decision.After.{After}
+use Rattle.rc_class.specs.declared.decision.After.TheVariants.{Nothing, RemoveSource, ClearArchive}
 use Rattle.rc_class.specs.declared.item.Item.{Item}
 use Rattle.rc_class.specs.Items.{are_rising, item_at}
-use Rattle.rc_volume.specs.declared.site.Side.TheVariants.{Target}
+use Rattle.rc_volume.specs.declared.site.Side.{Side}
+use Rattle.rc_volume.specs.declared.site.Side.TheVariants.{Source, Target}
 use Rattle.rc_volume.specs.Images.{AllNoSync, AreMixed, GoesBy, Half, HasProps, IsMade, IsMadeOver, IsNoSync, MayLeave, StepsBy}
-use Rattle.rc_volume.specs.Log.{EntryCall, Event, changed, set_props}
+use Rattle.rc_volume.specs.Log.{EntryCall, Event, changed, remove, set_props}
 use Rattle.rc_volume.specs.Site.{Maybe, Told, Turns, fresh_dir}
 use Rattle.rc_volume.proofs.ImageLemmas.{came_by}
-use Rattle.rc_finish.specs.Calls.{Gives, IsCallFor, IsLeftAfter, IsLeftBy, LogsCalls, Makes}
-use Rattle.rc_finish.specs.Passes.{Pass}
+use Rattle.rc_finish.specs.Calls.{freeing, Frees, Gives, IsCallOn, IsLeftAfter, IsLeftAfterOn, IsLeftBy, LogsCalls, LogsCallsOn, Makes, Purges}
+use Rattle.rc_finish.specs.Passes.{Pass, without_archive}
 use Rattle.rc_finish.proofs.ItemKeys.{own_item}
 
 -- The same call twice
@@ -100,15 +103,23 @@ props_then given o m n f s =
 
 -- The calls of a pass, one after another
 
-module _ (calls : Item → EntryCall → Type 0) (items : List Item) (rising : are_rising items ≡ true) (once : (item : Item) (c d : EntryCall) → calls item c → calls item d → c ≡ d) (joins : (item : Item) (call : EntryCall) → calls item call → (o m n : Option Node) → Half call o m → Half call m n → Half call o n) where
+step_at : (side : Side) (key at : List (List ℕ)) (call : EntryCall) (o m : Option Node) → StepsBy side key (changed side at call) o m → (at ≡ key → Maybe (Half call) o m) × (at ≢ key → m ≡ o)
+step_at Source key at call o m step = step
+step_at Target key at call o m step = step
+
+no_sync : (side : Side) (at : List (List ℕ)) (call : EntryCall) → IsNoSync side (changed side at call)
+no_sync Source at call = tt
+no_sync Target at call = tt
+
+module _ (side : Side) (calls : Item → EntryCall → Type 0) (items : List Item) (rising : are_rising items ≡ true) (once : (item : Item) (c d : EntryCall) → calls item c → calls item d → c ≡ d) (joins : (item : Item) (call : EntryCall) → calls item call → (o m n : Option Node) → Half call o m → Half call m n → Half call o n) where
   abbrev Leaves : List (List ℕ) → Option Node → Option Node → Type 0
   Leaves key o n = (n ≡ o) ⊎ IsLeftBy calls items key o n
 
-  one_event : (key : List (List ℕ)) (event : Event) → IsCallFor calls items event → (o m : Option Node) → StepsBy Target key event o m → Leaves key o m
+  one_event : (key : List (List ℕ)) (event : Event) → IsCallOn side calls items event → (o m : Option Node) → StepsBy side key event o m → Leaves key o m
   one_event key event is o m step = by (eq_by_cmp key_cmp key (key_of is.item.path)) refl
     where
-      steps : StepsBy Target key (changed Target (key_of is.item.path) is.call) o m
-      steps = subst (λ (e : Event). StepsBy Target key e o m) is.is step
+      steps : (key_of is.item.path ≡ key → Maybe (Half is.call) o m) × (key_of is.item.path ≢ key → m ≡ o)
+      steps = step_at side key (key_of is.item.path) is.call o m (subst (λ (e : Event). StepsBy side key e o m) is.is step)
 
       half : key ≡ key_of is.item.path → Maybe (Half is.call) o m → Leaves key o m
       half same (inl stays) = inl stays
@@ -154,20 +165,20 @@ module _ (calls : Item → EntryCall → Type 0) (items : List Item) (rising : a
       same_item : (x y : Item) → Some x ≡ Some y → x ≡ y
       same_item x y e = cc
 
-  goes_on : (events : List Event) → All (IsCallFor calls items) events → (key : List (List ℕ)) (o n : Option Node) → GoesBy Target key events o n → Leaves key o n
+  goes_on : (events : List Event) → All (IsCallOn side calls items) events → (key : List (List ℕ)) (o n : Option Node) → GoesBy side key events o n → Leaves key o n
   goes_on [] each key o n h = inl h
   goes_on (event ∷ events) each key o n h =
-      leaves_then key o h.0 n (one_event key event (All-head (IsCallFor calls items) event events each) o h.0 h.1) (goes_on events (All-tail (IsCallFor calls items) event events each) key h.0 n h.2)
+      leaves_then key o h.0 n (one_event key event (All-head (IsCallOn side calls items) event events each) o h.0 h.1) (goes_on events (All-tail (IsCallOn side calls items) event events each) key h.0 n h.2)
 
-  no_syncs : (events : List Event) → All (IsCallFor calls items) events → AllNoSync Target events
+  no_syncs : (events : List Event) → All (IsCallOn side calls items) events → AllNoSync side events
   no_syncs [] each = tt
   no_syncs (event ∷ events) each =
-      let is = All-head (IsCallFor calls items) event events each in
-      (subst (λ (e : Event). IsNoSync Target e) (sym is.is) tt, no_syncs events (All-tail (IsCallFor calls items) event events each))
+      let is = All-head (IsCallOn side calls items) event events each in
+      (subst (λ (e : Event). IsNoSync side e) (sym is.is) (no_sync side (key_of is.item.path) is.call), no_syncs events (All-tail (IsCallOn side calls items) event events each))
 
-  left_after : (old new : List Event) (image : Tree) → LogsCalls calls items old new → MayLeave Target new image → IsLeftAfter calls items old image
+  left_after : (old new : List Event) (image : Tree) → LogsCallsOn side calls items old new → MayLeave side new image → IsLeftAfterOn side calls items old image
   left_after old new image log leaves =
-      let came = came_by Target old log.events image (no_syncs log.events log.each) (subst (λ (events : List Event). MayLeave Target events image) log.is leaves) in
+      let came = came_by side old log.events image (no_syncs log.events log.each) (subst (λ (events : List Event). MayLeave side events image) log.is leaves) in
       record {
         old = came.0;
         left = came.1;
@@ -177,7 +188,7 @@ module _ (calls : Item → EntryCall → Type 0) (items : List Item) (rising : a
 -- Directories
 
 pub made_left : (items : List Item) (old new : List Event) (image : Tree) → are_rising items ≡ true → LogsCalls Makes items old new → MayLeave Target new image → IsLeftAfter Makes items old image
-made_left items old new image rising = left_after Makes items rising (λ item c d one other. one.1 ∙ sym other.1)
+made_left items old new image rising = left_after Target Makes items rising (λ item c d one other. one.1 ∙ sym other.1)
     (λ item call is o m n. subst (λ (c : EntryCall). Half c o m → Half c m n → Half c o n) (sym is.1) (made_then (fresh_dir (last_name item.path)) refl o m n))
     old new image
 
@@ -194,6 +205,32 @@ given_joins None call e o m n = absurd (none_some e)
 given_joins (Some props) call e o m n = subst (λ (c : EntryCall). Half c o m → Half c m n → Half c o n) (same_call (set_props props) call e) (props_then props o m n)
 
 pub given_left : (pass : Pass) (start : Told) (items : List Item) (old new : List Event) (image : Tree) → are_rising items ≡ true → LogsCalls (Gives pass start) items old new → MayLeave Target new image → IsLeftAfter (Gives pass start) items old image
-given_left pass start items old new image rising = left_after (Gives pass start) items rising (λ item c d one other. same_call c d (sym one.1 ∙ other.1))
+given_left pass start items old new image rising = left_after Target (Gives pass start) items rising (λ item c d one other. same_call c d (sym one.1 ∙ other.1))
     (λ item call is. given_joins (option_map (λ node. node.props) (pass item (get start.source (key_of item.path)) (get start.target (key_of item.path)))) call is.1)
+    old new image
+
+-- Removals
+
+pub purged_left : (items : List Item) (old new : List Event) (image : Tree) → are_rising items ≡ true → LogsCalls Purges items old new → MayLeave Target new image → IsLeftAfter Purges items old image
+purged_left items old new image rising = left_after Target Purges items rising (λ item c d one other. one.1 ∙ sym other.1)
+    (λ item call is o m n. subst (λ (c : EntryCall). Half c o m → Half c m n → Half c o n) (sym is.1) (λ first second. second))
+    old new image
+
+-- Sources
+
+freed_joins : (after : After) (source : Option Node) (call : EntryCall) → freeing after source ≡ Some call → (o m n : Option Node) → Half call o m → Half call m n → Half call o n
+freed_joins Nothing source call e o m n = absurd (none_some e)
+  where
+    none_some : None ≡ Some call → ⊥
+    none_some e = cc
+freed_joins RemoveSource source call e o m n = subst (λ (c : EntryCall). Half c o m → Half c m n → Half c o n) (same_call remove call e) (λ first second. second)
+freed_joins ClearArchive None call e o m n = absurd (none_some e)
+  where
+    none_some : None ≡ Some call → ⊥
+    none_some e = cc
+freed_joins ClearArchive (Some node) call e o m n = subst (λ (c : EntryCall). Half c o m → Half c m n → Half c o n) (same_call (set_props (without_archive node.props)) call e) (props_then (without_archive node.props) o m n)
+
+pub freed_left : (start : Told) (items : List Item) (old new : List Event) (image : Tree) → are_rising items ≡ true → LogsCallsOn Source (Frees start) items old new → MayLeave Source new image → IsLeftAfterOn Source (Frees start) items old image
+freed_left start items old new image rising = left_after Source (Frees start) items rising (λ item c d one other. same_call c d (sym one ∙ other))
+    (λ item call is. freed_joins item.after (get start.source (key_of item.path)) call is)
     old new image

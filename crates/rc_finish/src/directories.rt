@@ -61,6 +61,7 @@ pub fn make_dirs<S: Site, C: Clock>(
         Ok(()) => sync(
             alloc,
             site,
+            Side::Target,
             items.iter().any(|item| item.act == Act::Make),
             tries,
             clock,

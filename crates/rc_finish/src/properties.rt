@@ -1,21 +1,20 @@
 //! What was made or stays gets the properties that its item gives it.
 
-ghost use Rattle.std.specs.Prelude.{◌≡◌, ◌<◌, ◌∷◌, [], true, length, IfOk, IsSome, OnErr, OnOk};
+ghost use Rattle.std.specs.Prelude.{◌≡◌, ◌<◌, ◌∷◌, [], true, length, IfOk, OnErr, OnOk};
 ghost use Rattle.rc_tree.specs.Path.{key_of};
 ghost use Rattle.rc_class.specs.Items.{are_rising};
 ghost use Rattle.rc_volume.specs.declared.site.Side.TheVariants.{Target};
 ghost use Rattle.rc_volume.specs.Frames.{ChangesAt, ChangesSide};
-ghost use Rattle.rc_volume.specs.Log.{changed, set_props};
-ghost use Rattle.rc_volume.specs.Site.{node_at, with_props, Becomes};
+ghost use Rattle.rc_volume.specs.Site.{node_at, Becomes};
 ghost use Rattle.rc_volume.specs.Waits.{Waits};
-ghost use Rattle.rc_finish.specs.Calls.{finish_cause, Gives, LogsCalls, LogsEach, LogsGiven, LogsPass};
+ghost use Rattle.rc_finish.specs.Calls.{finish_cause, Gives, LogsCalls, LogsGiven, LogsPass};
 ghost use Rattle.rc_finish.specs.Passes.{given, gives_props, has_any, props_given, with_given, AreBelowRoot, Ends, HasPassed, IsNow, IsPassing};
 
 use crate::FinishErr;
-use crate::tries::{Tries, fault, look, sync};
+use crate::tries::{Tries, look, set, sync};
 use rc_class::{Act, Item, Plan, Rules, directory_props, fixed_props, fresh_props};
 use rc_tree::{Kind, Moment, NoMemory, Path, Props};
-use rc_volume::{Clock, Side, Site, SiteErr};
+use rc_volume::{Clock, Side, Site};
 use std::alloc::Global;
 
 /// Gives the directories that were made or are touched, and the files whose properties are mended, what the items give
@@ -65,6 +64,7 @@ pub fn props_pass<S: Site, C: Clock>(
         Ok(()) => sync(
             alloc,
             site,
+            Side::Target,
             items.iter().any(|item| gives(item.act)),
             giving.tries,
             clock,
@@ -192,7 +192,15 @@ fn give_from<S: Site, C: Clock>(
 {
     match look(alloc, site, Side::Target, &item.path, giving.tries, clock) {
         Ok(Some(old)) => match props_given(alloc, giving, item.act, from, &old.props) {
-            Ok(props) => set(alloc, site, &item.path, &props, giving.tries, clock),
+            Ok(props) => set(
+                alloc,
+                site,
+                Side::Target,
+                &item.path,
+                &props,
+                giving.tries,
+                clock,
+            ),
             Err(_) => Err(FinishErr::NoMemory),
         },
         Ok(None) => Ok(()),
@@ -219,44 +227,5 @@ fn props_given(
         Act::Touch => directory_props(alloc, giving.rules, from, old),
         Act::Fix => fixed_props(alloc, giving.rules, from, old),
         _ => old.copy(alloc),
-    }
-}
-
-// Gives an entry these properties.
-fn set<S: Site, C: Clock>(
-    alloc: Global,
-    site: &mut S,
-    path: &Path,
-    props: &Props,
-    tries: Tries,
-    clock: &mut C,
-) -> Result<(), FinishErr>
-    requires stands { S.tells ≡ true →
-        IsSome (node_at (S.view site.old).told Target (key_of path.now)) }
-
-    ensures frame { ChangesAt S.tells Target (key_of path.now)
-        (Ends result (Becomes (with_props props.now))) (finish_cause tries.retries result)
-        (S.view site.old) (S.view site.new) }
-    ensures calls { S.tells ≡ true →
-        LogsEach (changed Target (key_of path.now) (set_props props.now))
-        (S.view site.old).log (S.view site.new).log }
-    ensures clock { C.tells ≡ true → C.always clock.new ≡ C.always clock.old }
-    ensures last { C.last clock.new ≡ C.last clock.old }
-    ensures unread { C.reads clock.new ≡ C.reads clock.old }
-    ensures waits { Waits tries.wait (finish_cause tries.retries result)
-        (S.view site.old).faults (S.view site.new).faults
-        (C.paused clock.old) (C.paused clock.new) }
-    ensures no_pause { tries.retries ≡ 0 → C.paused clock.new ≡ C.paused clock.old }
-{
-    for _ in 0..tries.retries {
-        match site.set_props(alloc, Side::Target, path, props) {
-            Ok(()) => return Ok(()),
-            Err(SiteErr::NoMemory) => return Err(FinishErr::NoMemory),
-            Err(SiteErr::Failed) => clock.pause(tries.wait),
-        }
-    }
-    match site.set_props(alloc, Side::Target, path, props) {
-        Ok(()) => Ok(()),
-        Err(e) => Err(fault(e, Side::Target)),
     }
 }

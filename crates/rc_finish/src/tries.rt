@@ -1,16 +1,18 @@
 //! Calls of a site that are tried again where they fail.
 
-ghost use Rattle.std.specs.Prelude.{◌≡◌, ◌<◌, true, IfOk, length, option_map, OnOk};
+ghost use Rattle.std.specs.Prelude.{◌≡◌, ◌<◌, true, IfOk, IsSome, length, option_map, OnOk};
 ghost use Rattle.rc_tree.specs.Path.{key_of};
 ghost use Rattle.rc_tree.specs.Tree.{IsTree};
-ghost use Rattle.rc_volume.specs.declared.site.Part.{Part};
-ghost use Rattle.rc_volume.specs.Frames.{Looks, Syncs};
-ghost use Rattle.rc_volume.specs.Site.{entry_of, node_at};
+ghost use Rattle.rc_volume.specs.Faults.{part_for};
+ghost use Rattle.rc_volume.specs.Frames.{ChangesAt, Looks, Syncs};
+ghost use Rattle.rc_volume.specs.Log.{changed, set_props};
+ghost use Rattle.rc_volume.specs.Site.{entry_of, node_at, tree_in, with_props, Becomes};
 ghost use Rattle.rc_volume.specs.Waits.{Waits};
-ghost use Rattle.rc_finish.specs.Calls.{fault_of, finish_cause, SyncsWhere};
+ghost use Rattle.rc_finish.specs.Calls.{fault_of, finish_cause, LogsEach, SyncsWhere};
+ghost use Rattle.rc_finish.specs.Passes.{Ends};
 
 use crate::FinishErr;
-use rc_tree::{Entry, Path};
+use rc_tree::{Entry, Path, Props};
 use rc_volume::{Clock, Side, Site, SiteErr};
 use std::alloc::Global;
 
@@ -56,20 +58,21 @@ pub(crate) fn look<S: Site, C: Clock>(
     }
 }
 
-/// Makes the target durable, where that is asked for.
+/// Makes a side durable, where that is asked for.
 pub(crate) fn sync<S: Site, C: Clock>(
     alloc: Global,
     site: &mut S,
+    side: Side,
     is_asked: bool,
     tries: Tries,
     clock: &mut C,
 ) -> Result<(), FinishErr>
-    ensures frame { Syncs S.tells Part.Target (finish_cause tries.retries result)
+    ensures frame { Syncs S.tells (part_for side) (finish_cause tries.retries result)
         (S.view site.old) (S.view site.new) }
-    ensures log { S.tells ≡ true → SyncsWhere is_asked result (S.view site.old).told.target
+    ensures log { S.tells ≡ true → SyncsWhere side is_asked result (tree_in (S.view site.old) side)
         (S.view site.old).log (S.view site.new).log }
     ensures tree { S.tells ≡ true → is_asked ≡ true →
-        OnOk result (IsTree (S.view site.old).told.target) }
+        OnOk result (IsTree (tree_in (S.view site.old) side)) }
     ensures clock { C.tells ≡ true → C.always clock.new ≡ C.always clock.old }
     ensures last { C.last clock.new ≡ C.last clock.old }
     ensures unread { C.reads clock.new ≡ C.reads clock.old }
@@ -82,15 +85,55 @@ pub(crate) fn sync<S: Site, C: Clock>(
         return Ok(());
     }
     for _ in 0..tries.retries {
-        match site.sync(alloc, Side::Target) {
+        match site.sync(alloc, side) {
             Ok(()) => return Ok(()),
             Err(SiteErr::NoMemory) => return Err(FinishErr::NoMemory),
             Err(SiteErr::Failed) => clock.pause(tries.wait),
         }
     }
-    match site.sync(alloc, Side::Target) {
+    match site.sync(alloc, side) {
         Ok(()) => Ok(()),
-        Err(e) => Err(fault(e, Side::Target)),
+        Err(e) => Err(fault(e, side)),
+    }
+}
+
+/// Gives an entry of a side these properties.
+pub(crate) fn set<S: Site, C: Clock>(
+    alloc: Global,
+    site: &mut S,
+    side: Side,
+    path: &Path,
+    props: &Props,
+    tries: Tries,
+    clock: &mut C,
+) -> Result<(), FinishErr>
+    requires stands { S.tells ≡ true →
+        IsSome (node_at (S.view site.old).told side (key_of path.now)) }
+
+    ensures frame { ChangesAt S.tells side (key_of path.now)
+        (Ends result (Becomes (with_props props.now))) (finish_cause tries.retries result)
+        (S.view site.old) (S.view site.new) }
+    ensures calls { S.tells ≡ true →
+        LogsEach (changed side (key_of path.now) (set_props props.now))
+        (S.view site.old).log (S.view site.new).log }
+    ensures clock { C.tells ≡ true → C.always clock.new ≡ C.always clock.old }
+    ensures last { C.last clock.new ≡ C.last clock.old }
+    ensures unread { C.reads clock.new ≡ C.reads clock.old }
+    ensures waits { Waits tries.wait (finish_cause tries.retries result)
+        (S.view site.old).faults (S.view site.new).faults
+        (C.paused clock.old) (C.paused clock.new) }
+    ensures no_pause { tries.retries ≡ 0 → C.paused clock.new ≡ C.paused clock.old }
+{
+    for _ in 0..tries.retries {
+        match site.set_props(alloc, side, path, props) {
+            Ok(()) => return Ok(()),
+            Err(SiteErr::NoMemory) => return Err(FinishErr::NoMemory),
+            Err(SiteErr::Failed) => clock.pause(tries.wait),
+        }
+    }
+    match site.set_props(alloc, side, path, props) {
+        Ok(()) => Ok(()),
+        Err(e) => Err(fault(e, side)),
     }
 }
 

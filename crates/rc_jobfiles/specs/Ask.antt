@@ -28,8 +28,8 @@ as_word text = record { text = text; quoted = false }
 -- the switches that have no effect in a run so far, by their numbers in the switch table
 abbrev pub unbuilt : List ℕ
 unbuilt =
-    -- /NOSD, /NODD, /PURGE, /MIR, /MOV, /MOVE, /M
-    2 ∷ 3 ∷ 8 ∷ 9 ∷ 10 ∷ 11 ∷ 24
+    -- /NOSD, /NODD
+    2 ∷ 3
     -- /L, /V, /NFL, /NDL, /NC, /NS, /NJH, /NJS, /BYTES, /FP, /TS
     ∷ 49 ∷ 50 ∷ 51 ∷ 52 ∷ 53 ∷ 54 ∷ 55 ∷ 56 ∷ 57 ∷ 58 ∷ 59
     -- /JOB:, /SAVE:, /QUIT, /DROP

@@ -6,9 +6,9 @@ use crate::lookup::number_of;
 use rc_words::{Placed, Setting};
 
 // Those that have none so far, by their numbers in the switch table.
-const UNBUILT: [u8; 22] = [
-    // /NOSD, /NODD, /PURGE, /MIR, /MOV, /MOVE, /M
-    2, 3, 8, 9, 10, 11, 24, //
+const UNBUILT: [u8; 17] = [
+    // /NOSD, /NODD
+    2, 3, //
     // /L, /V, /NFL, /NDL, /NC, /NS, /NJH, /NJS, /BYTES, /FP, /TS
     49, 50, 51, 52, 53, 54, 55, 56, 57, 58, 59, //
     // /JOB:, /SAVE:, /QUIT, /DROP

@@ -1,8 +1,11 @@
+pub mod Decides
 pub mod Floors
+pub mod Keyed
 pub mod Leads
 pub mod Listings
-pub mod Makes
+pub mod Neighbours
 pub mod Pairings
 pub mod Plans
 pub mod Scans
+pub mod Settles
 pub mod Walks

@@ -1,9 +1,9 @@
 -- The pairing of two lists as a relation, and what it says of the pairs: their order, and what stands at each key.
-use Rattle.std.proofs.Common.{◌≡◌, ℕ, ◌+◌, ◌<◌, Bool, true, false, cond, ◌&&◌, List, [], ◌∷◌, ◌++◌, Option, Some, None, map, length, refl, sym, ap, subst, ◌∙◌, append_assoc, arith}
+use Rattle.std.proofs.Common.{◌≡◌, ℕ, ◌+◌, ◌<◌, true, false, cond, List, [], ◌∷◌, ◌++◌, Option, Some, None, map, length, refl, sym, ap, subst, ◌∙◌, append_assoc, arith}
 use Rattle.std.proofs.lemmas.List.{append-nil}
 use Rattle.std.specs.Prelude.{T, IfSome}
 use Rattle.std.specs.FinMap.Entries.{is_sorted, below_all}
-use Rattle.std.specs.Ordering.{eq_by_cmp, is_eq, is_lt, ordering_reverse}
+use Rattle.std.specs.Ordering.{eq_by_cmp, is_lt, ordering_reverse}
 use Rattle.std.specs.declared.cmp.Ordering.{Ordering}
 use Rattle.std.specs.declared.cmp.Ordering.TheVariants.{Less, Equal, Greater}
 use Rattle.rc_tree.specs.Path.{key_cmp, key_of}
@@ -12,56 +12,18 @@ use Rattle.rc_plan.specs.declared.entries.Found.{Found}
 use Rattle.rc_plan.specs.declared.pairs.Pair.{Pair}
 use Rattle.rc_plan.specs.Found.{are_rising, found_at, placed}
 use Rattle.rc_plan.specs.Pair.{ArePaired, are_pairs_rising, behind, by_order, least, pair_at, pair_key, pair_of, pair_path, placed_pair}
+use Rattle.rc_plan.proofs.Keyed.{Key, absent, below_less, both, first_part, holds, is_true, same_some, second_part, some_none}
 
 -- the pairs of two lists, key by key
 pub data Pairs : List Found → List Found → List Pair → Type 0 where
   ends : Pairs [] [] []
   steps : (s t : List Found) (pair : Pair) (pairs : List Pair) → pair_of (least s t).0 (least s t).1 ≡ Some pair → Pairs (behind (least s t).0 s) (behind (least s t).1 t) pairs → Pairs s t (pair ∷ pairs)
 
-some_none : {A : Type 0} (x : A) → Some x ≡ None → ⊥
-some_none x e = cc
-
-same_some : {A : Type 0} (x y : A) → Some x ≡ Some y → x ≡ y
-same_some x y e = cc
-
-first_part : (a b : Bool) → T (a && b) → T a
-first_part true b p = tt
-first_part false b p = p
-
-second_part : (a b : Bool) → T (a && b) → T b
-second_part true b p = p
-second_part false b p = absurd p
-
-both : (a b : Bool) → T a → T b → T (a && b)
-both true b p q = q
-both false b p q = p
-
-less : (r : Ordering) → T (is_lt r) → r ≡ Less
-less Less p = refl
-less Equal p = absurd p
-less Greater p = absurd p
-
 is_less : (r : Ordering) → r ≡ Less → T (is_lt r)
 is_less r e = subst (λ (o : Ordering). T (is_lt o)) (sym e) tt
 
-holds : (b : Bool) → b ≡ true → T b
-holds b e = subst T (sym e) tt
-
-is_true : (b : Bool) → T b → b ≡ true
-is_true true p = refl
-is_true false p = absurd p
-
--- Lists in order
-
-below_less : (j k : List (List ℕ)) (es : List Found) → key_cmp j k ≡ Less → T (below_all key_cmp k (map placed es)) → T (below_all key_cmp j (map placed es))
-below_less j k [] l below = tt
-below_less j k (e ∷ es) l below =
-    both _ _ (is_less _ (key_cmp-total.trans j k (key_of e.path) l (less _ (first_part _ _ below)))) (below_less j k es l (second_part _ _ below))
-
-absent_below : (k : List (List ℕ)) (es : List Found) → T (below_all key_cmp k (map placed es)) → found_at es k ≡ None
-absent_below k [] below = refl
-absent_below k (e ∷ es) below =
-    ap (λ r. cond (is_eq r) (Some e) (found_at es k)) (less _ (first_part _ _ below)) ∙ absent_below k es (second_part _ _ below)
+abbrev key_found : Found → Key
+key_found found = key_of found.path
 
 -- What one side has at the least key
 
@@ -81,7 +43,7 @@ takes_first f fs sorted = record {
 }
 
 takes_none : (all : List Found) (key : List (List ℕ)) → T (below_all key_cmp key (map placed all)) → Takes all key None
-takes_none all key below = record { stands = absent_below key all below; spelled = tt; above = below; others = λ q apart. refl }
+takes_none all key below = record { stands = absent key_found key all below; spelled = tt; above = below; others = λ q apart. refl }
 
 record TakesLeast (s t : List Found) (taken : Option Found × Option Found) : Type 0 where
   key : List (List ℕ)
@@ -92,7 +54,7 @@ takes_by : (r : Ordering) (f g : Found) (fs gs : List Found) → key_cmp (key_of
 takes_by Less f g fs gs e ours theirs = record {
   key = key_of f.path;
   ours = takes_first f fs ours;
-  theirs = takes_none (g ∷ gs) (key_of f.path) (both _ _ (is_less _ e) (below_less (key_of f.path) (key_of g.path) gs e (first_part _ _ theirs)));
+  theirs = takes_none (g ∷ gs) (key_of f.path) (both _ _ (is_less _ e) (below_less key_found (key_of f.path) (key_of g.path) gs e (first_part _ _ theirs)));
 }
 takes_by Equal f g fs gs e ours theirs = record {
   key = key_of g.path;
@@ -103,7 +65,7 @@ takes_by Greater f g fs gs e ours theirs =
     let before : key_cmp (key_of g.path) (key_of f.path) ≡ Less = key_cmp-total.antisymm (key_of g.path) (key_of f.path) ∙ ap ordering_reverse e in
     record {
       key = key_of g.path;
-      ours = takes_none (f ∷ fs) (key_of g.path) (both _ _ (is_less _ before) (below_less (key_of g.path) (key_of f.path) fs before (first_part _ _ ours)));
+      ours = takes_none (f ∷ fs) (key_of g.path) (both _ _ (is_less _ before) (below_less key_found (key_of g.path) (key_of f.path) fs before (first_part _ _ ours)));
       theirs = takes_first g gs theirs;
     }
 
@@ -137,7 +99,7 @@ first_by P Greater f g p q = record { ours = tt; theirs = q }
 
 -- the path of a pair is that of what was found
 of_path : (P : List (List ℕ) → Type 0) (x y : Option Found) (pair : Pair) → pair_of x y ≡ Some pair → IfSome x (λ f. P f.path) → IfSome y (λ f. P f.path) → P (pair_path pair)
-of_path P None None pair e ours theirs = absurd (some_none pair (sym e))
+of_path P None None pair e ours theirs = absurd (some_none pair e)
 of_path P None (Some g) pair e ours theirs = subst (λ (p : Pair). P (pair_path p)) (same_some _ pair e) theirs
 of_path P (Some f) y pair e ours theirs = subst (λ (p : Pair). P (pair_path p)) (same_some _ pair e) ours
 
@@ -209,14 +171,14 @@ Pairing-more source target ours theirs next others pairs pair sofar taken mine y
 
 nothing_left : (s t : List Found) → None ≡ pair_of (least s t).0 (least s t).1 → Pairs s t []
 nothing_left [] [] e = ends
-nothing_left (f ∷ fs) [] e = absurd (some_none _ (sym e))
-nothing_left [] (g ∷ gs) e = absurd (some_none _ (sym e))
+nothing_left (f ∷ fs) [] e = absurd (some_none _ e)
+nothing_left [] (g ∷ gs) e = absurd (some_none _ e)
 nothing_left (f ∷ fs) (g ∷ gs) e = absurd (some_by (key_cmp (key_of f.path) (key_of g.path)) e)
   where
     some_by : (r : Ordering) → None ≡ pair_of (by_order r f g).0 (by_order r f g).1 → ⊥
-    some_by Less e = some_none _ (sym e)
-    some_by Equal e = some_none _ (sym e)
-    some_by Greater e = some_none _ (sym e)
+    some_by Less e = some_none _ e
+    some_by Equal e = some_none _ e
+    some_by Greater e = some_none _ e
 
 -- what a finished pairing answers
 pub record Paired (source target : List Found) (pairs : List Pair) : Type 0 where
@@ -238,7 +200,7 @@ fewer s t next others pair taken mine yours =
     (subst (λ (y : List Found). length (behind (least s t).0 s) + length y < length s + length t) (sym yours) (by s t taken))
   where
     by : (s t : List Found) → Some pair ≡ pair_of (least s t).0 (least s t).1 → length (behind (least s t).0 s) + length (behind (least s t).1 t) < length s + length t
-    by [] [] e = absurd (some_none pair e)
+    by [] [] e = absurd (some_none pair (sym e))
     by (f ∷ fs) [] e = omega arith
     by [] (g ∷ gs) e = omega arith
     by (f ∷ fs) (g ∷ gs) e = fewer_by (key_cmp (key_of f.path) (key_of g.path))

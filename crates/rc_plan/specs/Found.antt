@@ -4,6 +4,7 @@ use Rattle.std.specs.FinMap.{get, find, is_sorted}
 use Rattle.rc_tree.specs.declared.attr.Kind.{Kind}
 use Rattle.rc_tree.specs.declared.attr.Kind.TheVariants.{File, Dir}
 use Rattle.rc_tree.specs.declared.entry.Entry.{Entry}
+use Rattle.rc_class.specs.declared.facts.Facts.{Facts}
 use Rattle.rc_tree.specs.Path.{key_of, key_cmp}
 use Rattle.rc_tree.specs.Spelled.{spelled}
 use Rattle.rc_tree.specs.Tree.{Tree}
@@ -22,6 +23,17 @@ found_of path entry = record {
   facts = record { kind = entry.kind; size = entry.size; written = entry.props.written; attr = entry.props.attr };
   directory = directory_of entry.kind entry;
 }
+
+-- its kind and its facts: an entry without a directory's is a file
+abbrev pub kind_from : Option Entry → Kind
+kind_from None = File
+kind_from (Some directory) = Dir
+
+abbrev pub kind_found : Found → Kind
+kind_found found = kind_from found.directory
+
+abbrev pub facts_found : Found → Facts
+facts_found found = record found.facts { kind = kind_found found }
 
 -- one that was found, under its key
 abbrev pub placed : Found → List (List ℕ) × Found

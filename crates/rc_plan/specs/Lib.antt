@@ -2,7 +2,8 @@ pub mod Deciding
 pub mod Faults
 pub mod Found
 pub mod Limits
-pub mod Made
 pub mod Pair
 pub mod Plan
+pub mod Rows
+pub mod Settled
 pub mod Walk

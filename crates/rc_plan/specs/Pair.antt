@@ -1,27 +1,39 @@
 -- What two sides have at each key of either.
-use Rattle.std.specs.Prelude.{◌≡◌, ℕ, Bool, List, [], ◌∷◌, Option, Some, None, map}
+use Rattle.std.specs.Prelude.{◌≡◌, ℕ, Bool, List, [], ◌∷◌, Option, Some, None, map, option_map}
 use Rattle.std.specs.FinMap.{find, is_sorted}
 use Rattle.std.specs.declared.cmp.Ordering.{Ordering}
 use Rattle.std.specs.declared.cmp.Ordering.TheVariants.{Less, Equal, Greater}
+use Rattle.rc_tree.specs.declared.attr.Kind.{Kind}
 use Rattle.rc_tree.specs.Path.{key_of, key_cmp}
 use Rattle.rc_plan.specs.declared.entries.Found.{Found}
 use Rattle.rc_plan.specs.declared.pairs.Pair.{Pair}
-use Rattle.rc_plan.specs.Found.{found_at}
+use Rattle.rc_plan.specs.declared.pairs.Pair.TheVariants as paired
+use Rattle.rc_plan.specs.Found.{found_at, kind_found}
 
 -- what two sides have at a key; none where neither has an entry
 abbrev pub pair_of : Option Found → Option Found → Option Pair
-pair_of (Some source) target = Some (record { source = Some source; target = target })
-pair_of None (Some target) = Some (record { source = None; target = Some target })
+pair_of (Some source) target = Some (paired.Source source target)
+pair_of None (Some target) = Some (paired.Extra target)
 pair_of None None = None
 
--- the path of a pair: the source's where that has an entry
-abbrev pub path_of : Option Found → Option Found → List (List ℕ)
-path_of (Some source) target = source.path
-path_of None (Some target) = target.path
-path_of None None = []
+abbrev pub source_of : Pair → Option Found
+source_of (paired.Source source target) = Some source
+source_of (paired.Extra target) = None
 
+abbrev pub target_of : Pair → Option Found
+target_of (paired.Source source target) = target
+target_of (paired.Extra target) = Some target
+
+abbrev pub source_kind : Pair → Option Kind
+source_kind pair = option_map kind_found (source_of pair)
+
+abbrev pub target_kind : Pair → Option Kind
+target_kind pair = option_map kind_found (target_of pair)
+
+-- the path of a pair: the source's where that has an entry
 abbrev pub pair_path : Pair → List (List ℕ)
-pair_path pair = path_of pair.source pair.target
+pair_path (paired.Source source target) = source.path
+pair_path (paired.Extra target) = target.path
 
 abbrev pub pair_key : Pair → List (List ℕ)
 pair_key pair = key_of (pair_path pair)

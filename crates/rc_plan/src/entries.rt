@@ -8,7 +8,7 @@ ghost use Rattle.rc_volume.specs.Frames.{Looks};
 ghost use Rattle.rc_volume.specs.Site.{IsListed, Lists, tree_in};
 ghost use Rattle.rc_volume.specs.Waits.{Waits};
 ghost use Rattle.rc_plan.specs.Faults.{list_cause};
-ghost use Rattle.rc_plan.specs.Found.{AreAllOf, are_rising, found_at, found_of};
+ghost use Rattle.rc_plan.specs.Found.{AreAllOf, are_rising, facts_found, found_at, found_of, kind_found};
 ghost use Rattle.rc_plan.specs.Walk.{IsBehind, Steps, next_place};
 
 use rc_class::Facts;
@@ -32,6 +32,26 @@ pub(crate) struct Found {
     pub(crate) path: Path,
     pub(crate) facts: Facts,
     pub(crate) directory: Option<Entry>,
+}
+
+/// The kind of an entry. One that is kept without a directory's is a file.
+pub(crate) fn kind_found(found: &Found) -> Kind
+    ensures { result ≡ kind_found found.now }
+{
+    match &found.directory {
+        Some(_) => Kind::Dir,
+        None => Kind::File,
+    }
+}
+
+/// Its facts.
+pub(crate) fn facts_found(found: &Found) -> Facts
+    ensures { result ≡ facts_found found.now }
+{
+    Facts {
+        kind: kind_found(found),
+        ..found.facts
+    }
 }
 
 /// Where a walk stands: in a directory, behind one of its entries or before all.

@@ -4,12 +4,14 @@
 //! could not be listed, or which limit is passed.
 #![tactic(auto)]
 
-mod decided;
+mod decisions;
 mod entries;
+mod items;
 mod limits;
-mod made;
 mod pairs;
 mod plan;
+mod rows;
+mod settling;
 mod sides;
 
 pub use plan::{PlanErr, make_plan};

@@ -1,22 +1,60 @@
 //! The entries of two sides, paired key by key.
 
-ghost use Rattle.std.specs.Prelude.{◌≡◌, true, IfOk, option_map};
-ghost use Rattle.std.specs.Option.{option_copied};
-ghost use Rattle.rc_tree.specs.Path.{key_of, key_cmp};
+ghost use Rattle.std.specs.Prelude.{◌≡◌, true, IfOk};
 ghost use Rattle.rc_plan.specs.Found.{are_rising};
-ghost use Rattle.rc_plan.specs.Pair.{ArePaired, are_pairs_rising, behind, first_order, least, pair_of};
+ghost use Rattle.rc_plan.specs.Pair.{ArePaired, are_pairs_rising, behind, first_order, least, pair_of, pair_path, source_kind, target_kind};
 
-use crate::entries::Found;
-use rc_tree::NoMemory;
+use crate::entries::{Found, kind_found};
+use rc_tree::{Kind, NoMemory, Path};
 use std::alloc::Global;
 use std::cmp::Ordering;
 use std::collections::VecDeque;
 
 /// What the two sides have at a key at which one of them has an entry.
 #[derive(Debug, Drop)]
-pub(crate) struct Pair {
-    pub(crate) source: Option<Found>,
-    pub(crate) target: Option<Found>,
+pub(crate) enum Pair {
+    /// The source has one, and maybe the target too.
+    Source {
+        source: Found,
+        target: Option<Found>,
+    },
+    /// The target alone has one.
+    Extra {
+        target: Found,
+    },
+}
+
+/// The path of a pair: the source's where that has an entry.
+pub(crate) fn pair_path(pair: &Pair) -> &Path
+    ensures { result.now ≡ pair_path pair.now }
+{
+    match pair {
+        Pair::Source { source, .. } => &source.path,
+        Pair::Extra { target } => &target.path,
+    }
+}
+
+/// What the source has at a pair's key.
+pub(crate) fn source_kind(pair: &Pair) -> Option<Kind>
+    ensures { result ≡ source_kind pair.now }
+{
+    match pair {
+        Pair::Source { source, .. } => Some(kind_found(source)),
+        Pair::Extra { .. } => None,
+    }
+}
+
+/// And the target.
+pub(crate) fn target_kind(pair: &Pair) -> Option<Kind>
+    ensures { result ≡ target_kind pair.now }
+{
+    match pair {
+        Pair::Source { target, .. } => match target {
+            Some(target) => Some(kind_found(target)),
+            None => None,
+        },
+        Pair::Extra { target } => Some(kind_found(target)),
+    }
 }
 
 /// What two sides have at each key of either, in the order of keys.
@@ -48,26 +86,28 @@ pub(crate) fn pair_sides(
 // Takes what the two sides have at the least key of both.
 fn take_least(ours: &mut VecDeque<Found>, theirs: &mut VecDeque<Found>) -> Option<Pair>
     ensures taken { result
-        ≡ pair_of (least ours.old.items theirs.old.items).0 (least ours.old.items theirs.old.items).1 }
+        ≡ pair_of (least ours.old.items theirs.old.items).0
+        (least ours.old.items theirs.old.items).1 }
     ensures ours { ours.new.items
         ≡ behind (least ours.old.items theirs.old.items).0 ours.old.items }
     ensures theirs { theirs.new.items
         ≡ behind (least ours.old.items theirs.old.items).1 theirs.old.items }
 {
     match first_order(ours, theirs) {
-        Some(Ordering::Less) => Some(Pair {
-            source: ours.pop_front(),
-            target: None,
-        }),
-        Some(Ordering::Equal) => Some(Pair {
-            source: ours.pop_front(),
-            target: theirs.pop_front(),
-        }),
-        Some(Ordering::Greater) => Some(Pair {
-            source: None,
-            target: theirs.pop_front(),
-        }),
+        Some(Ordering::Less) => pair_of(ours.pop_front(), None),
+        Some(Ordering::Equal) => pair_of(ours.pop_front(), theirs.pop_front()),
+        Some(Ordering::Greater) => pair_of(None, theirs.pop_front()),
         None => None,
+    }
+}
+
+fn pair_of(source: Option<Found>, target: Option<Found>) -> Option<Pair>
+    ensures { result ≡ pair_of source target }
+{
+    match (source, target) {
+        (Some(source), target) => Some(Pair::Source { source, target }),
+        (None, Some(target)) => Some(Pair::Extra { target }),
+        (None, None) => None,
     }
 }
 

@@ -1,7 +1,7 @@
 //! The plan of a job on the two whole trees of a site, within the limits.
 //!
-//! Both sides are read whole, paired key by key and decided: scope going forwards, what some file below asks for going
-//! backwards. No tree is changed.
+//! Both sides are read whole, paired key by key and decided: scope going forwards, and the decisions, which ask for what
+//! becomes of all that lies below a directory, going backwards. No tree is changed.
 
 ghost use Rattle.std.specs.Prelude.{◌≡◌, true, None, IfErr, IfOk, OnOk};
 ghost use Rattle.rc_class.specs.Start.{IsPlanOf};

@@ -8,12 +8,15 @@ ghost use Rattle.rc_volume.specs.Waits.{Waits};
 ghost use Rattle.rc_plan.specs.Deciding.{AreDecided};
 ghost use Rattle.rc_plan.specs.Faults.{list_cause};
 ghost use Rattle.rc_plan.specs.Found.{AreAllOf, are_rising as are_found_rising, found_at};
+ghost use Rattle.rc_plan.specs.Pair.{are_pairs_rising, pair_at};
 ghost use Rattle.rc_plan.specs.Plan.{AreTrees};
+ghost use Rattle.rc_plan.specs.Rows.{ArePairsOf};
 
-use crate::decided::decide_pairs;
 use crate::entries::{Found, ListErr, read_side};
-use crate::made::make_needed;
-use crate::pairs::pair_sides;
+use crate::items::make_items;
+use crate::pairs::{Pair, pair_sides};
+use crate::rows::scope_pairs;
+use crate::settling::settle;
 use rc_class::Item;
 use rc_filter::decisions_by_neighbours;
 use rc_job::Job;
@@ -30,7 +33,8 @@ pub(crate) fn decide_site<S: Site, C: Clock>(
     clock: &mut C,
 ) -> Result<Vec<Item>, ListErr>
     ensures decided { S.tells ≡ true → IfOk result (λ items.
-        AreDecided job.now (S.view site.old).told.source (S.view site.old).told.target moment items.items) }
+        AreDecided job.now (S.view site.old).told.source (S.view site.old).told.target
+        moment items.items) }
     ensures trees { S.tells ≡ true → OnOk result (AreTrees (S.view site.old).told) }
     // On every site, told or not.
     ensures rising { IfOk result (λ items. are_rising items.items ≡ true) }
@@ -107,11 +111,35 @@ fn decide_sides(
         AreAllOf ours source.items → AreAllOf theirs target.items →
         IfOk result (λ items. AreDecided job.now ours theirs moment items.items) }
 {
-    decisions_by_neighbours();
     match pair_sides(alloc, source, target) {
         Ok(pairs) => match decide_pairs(alloc, job, moment, pairs) {
-            Ok(items) => match make_needed(alloc, items) {
-                Ok(made) => Ok(made),
+            Ok(items) => Ok(items),
+            Err(e) => Err(e),
+        },
+        Err(e) => Err(e),
+    }
+}
+
+// The items of all keys that a job decides, where the two sides have these pairs.
+fn decide_pairs(
+    alloc: Global,
+    job: &Job,
+    moment: Moment,
+    pairs: Vec<Pair>,
+) -> Result<Vec<Item>, NoMemory>
+    requires { are_pairs_rising pairs.items ≡ true }
+    ensures rising { IfOk result (λ items. are_rising items.items ≡ true) }
+    ensures root { pair_at pairs.items [] ≡ None →
+        IfOk result (λ items. item_at items.items [] ≡ None) }
+    ensures decided { (source target : Tree) →
+        IsTree source → IsTree target → ArePairsOf source target pairs.items →
+        IfOk result (λ items. AreDecided job.now source target moment items.items) }
+{
+    decisions_by_neighbours();
+    match scope_pairs(alloc, job, pairs) {
+        Ok(rows) => match settle(alloc, job, &moment, &rows) {
+            Ok(decisions) => match make_items(alloc, job, rows, decisions) {
+                Ok(items) => Ok(items),
                 Err(e) => Err(e),
             },
             Err(e) => Err(e),

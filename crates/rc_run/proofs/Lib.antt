@@ -1,4 +1,5 @@
 pub mod OutcomeLemmas
 pub mod PassLemmas
+pub mod ReleaseLemmas
 pub mod RunLemmas
 pub mod WaitLemmas

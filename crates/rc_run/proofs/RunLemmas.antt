@@ -3,52 +3,40 @@ use Rattle.std.proofs.Common.{◌≡◌, ℕ, ◌+◌, zero, suc, ◌<◌, ◌�
 use Rattle.std.proofs.Math.Seq.{take-length}
 use Rattle.std.proofs.lemmas.Bool.{true≢false, ltb-false}
 use Rattle.std.proofs.lemmas.List.{append-nil}
-use Rattle.std.specs.Prelude.{◌^◌, All, Err, option_map, nat_lt, if◌then◌else◌}
+use Rattle.std.specs.Prelude.{◌^◌, ◌⊎◌, All, Result, Ok, Err, option_map, nat_lt, if◌then◌else◌}
 use Rattle.std.specs.FinMap.{get}
 use Rattle.std.specs.List.{count_by, list_any}
-use Rattle.rc_tree.specs.declared.attr.Kind.{Kind}
-use Rattle.rc_tree.specs.declared.attr.Kind.TheVariants.{File, Dir}
-use Rattle.rc_tree.specs.declared.props.Props.{Props}
-use Rattle.rc_tree.specs.Spelled.{spelled}
 use Rattle.rc_tree.specs.Tree.{IsTree, Node, Tree}
 use Rattle.rc_tree.proofs.Keys.{same_tree}
 use Rattle.rc_class.specs.declared.decision.Act.{Act}
 use Rattle.rc_class.specs.declared.decision.Act.TheVariants.{Copy, Make, Touch, Fix, Purge, Extra, Mismatch, Keep}
-use Rattle.rc_class.specs.declared.decision.After.{After}
-use Rattle.rc_class.specs.declared.decision.After.TheVariants.{Nothing}
-use Rattle.rc_class.specs.declared.class.Class.{Class}
-use Rattle.rc_class.specs.declared.decision.Reason.TheVariants as reason
-use Rattle.rc_class.specs.declared.facts.Facts.{Facts}
 use Rattle.rc_class.specs.declared.item.Item.{Item}
-use Rattle.rc_class.specs.Class.{class_against, facts_of}
 use Rattle.rc_class.specs.declared.plan.Plan.{Plan}
-use Rattle.rc_class.specs.Goal.{released, source_goal, target_goal}
+use Rattle.rc_class.specs.Goal.{is_left, source_goal, target_goal}
 use Rattle.rc_class.specs.Items.{item_at}
-use Rattle.rc_class.specs.Sides.{IsDecidedIn, is_put}
+use Rattle.rc_class.specs.Sides.{IsDecidedIn}
 use Rattle.rc_class.specs.Start.{IsPlanOf}
 use Rattle.rc_class.specs.Units.{is_copy}
 use Rattle.rc_copy.specs.declared.err.CopyErr.{CopyErr}
 use Rattle.rc_copy.specs.declared.err.CopyErr.TheVariants as copy_err
-use Rattle.rc_copy.specs.Copying.{AreDecided, AreSmallCopies, CopiesFiles, copies_any, copy_cause}
+use Rattle.rc_copy.specs.Copying.{AreDecided, AreSmallCopies, CopiesFiles, Rests, copies_any, copy_cause}
 use Rattle.rc_copy.proofs.ItemLemmas.{found_item}
-use Rattle.rc_finish.specs.Passes.{HasPassed, given, gives_props, has_any, pass_at, with_given}
+use Rattle.rc_finish.specs.Passes.{HasPassed, given, gives_props, has_any, is_purge, pass_at, with_given}
 use Rattle.rc_job.specs.declared.job.Job.{Job}
-use Rattle.rc_filter.specs.Acts.{class_act, copies_bytes, differ, directory_act, extra_act, grain_of, is_all, kind_and_props_of, lonely_act, rules_of, standing_act}
-use Rattle.rc_filter.specs.Decided.{act_for, decided_at, item_of, some_copied, start_of}
-use Rattle.rc_filter.specs.Matching.{is_excluded_directory, is_excluded_file, is_named}
-use Rattle.rc_filter.specs.Scope.{is_decided}
-use Rattle.rc_filter.proofs.FileActs.{of_class_act}
+use Rattle.rc_filter.specs.Acts.{copies_bytes, rules_of}
+use Rattle.rc_filter.specs.Decided.{decided_at, start_of}
 use Rattle.rc_class.specs.declared.rules.Rules.{Rules}
 use Rattle.rc_finish.specs.declared.err.FinishErr.{FinishErr}
 use Rattle.rc_finish.specs.declared.err.FinishErr.TheVariants as finish_err
 use Rattle.rc_finish.specs.Calls.{Gives, IsCallFor, LogsPass, finish_cause}
 use Rattle.rc_volume.specs.declared.site.Part.{Part}
+use Rattle.rc_volume.specs.declared.site.Part.TheVariants as part
 use Rattle.rc_volume.specs.declared.site.Side.TheVariants as side
 use Rattle.rc_volume.specs.declared.site.Side.TheVariants.{Target}
 use Rattle.rc_volume.specs.Faults.{Cause, Counts, free, on, part_for}
 use Rattle.rc_volume.specs.Frames.{ChangesSide}
 use Rattle.rc_volume.specs.Images.{IsOnlyTree}
-use Rattle.rc_volume.specs.Log.{Event, synced}
+use Rattle.rc_volume.specs.Log.{Event, LogsOn, synced}
 use Rattle.rc_plan.specs.declared.plan.PlanErr.{PlanErr}
 use Rattle.rc_plan.specs.declared.plan.PlanErr.TheVariants as plan_err
 use Rattle.rc_plan.specs.Limits.{first_too_big, has_source, has_target, is_too_big, limit_of, too_big}
@@ -62,7 +50,7 @@ use Rattle.rc_run.specs.declared.outcome.Unbuilt.TheVariants as unbuilt
 use Rattle.rc_run.specs.Answers.{Answers, RunLeaves, Sends, copying_of, is_empty, site_refusal, uncopied, unfinished, unplanned}
 use Rattle.rc_run.specs.Goal.{IsMirrored, items_at}
 use Rattle.rc_run.specs.Outcome.{Ending, EndsAt, at_copies, at_end, at_limits, at_listing, at_record, at_report, at_words, cause_of, ending, failed, finished, first_step, last_step, out_of_memory, refused, unreported}
-use Rattle.rc_run.specs.Under.{AreUnderWay, HaveGoals, IsLasting}
+use Rattle.rc_run.specs.Under.{AreReleased, AreReleasing, AreUnderWay, HaveGoals, IsLasting, IsLastingOn, IsReleasing, ReleasesLast, changes_any}
 use Rattle.rc_run.proofs.PassLemmas.{ArePassable}
 
 -- What is written
@@ -142,7 +130,7 @@ leaves_all job moment start end o from to holds h early same = record {
   mirrored = λ l. absurd (omega (arith, l, early, EndsAt-first from to holds (ending o) h));
   unchanged = λ _. same;
   between = λ key. inl (ap (λ (told : Told). get told.target key) same);
-  source = ap (λ (told : Told). told.source) same;
+  releasing = λ key. inl (ap (λ (told : Told). get told.source key) same);
   notes = ap (λ (told : Told). told.notes) same;
 }
 
@@ -167,79 +155,8 @@ sends_so job at moment start now items o old new are same begun whole front =
 abbrev Law : Type 0
 Law = (job : Job) (source target : Tree) (moment : ℕ) (key : List (List ℕ)) (item : Item) → IsTree source → IsTree target → decided_at job source target moment key ≡ Some item → IsDecidedIn (start_of job source target) moment key item
 
--- nothing is purged so far, and nothing becomes of a source
 some_none : {A : Type 0} (x : A) → Some x ≡ None → ⊥
 some_none x e = cc
-
-same_item : (a b : Item) → Some a ≡ Some b → a ≡ b
-same_item a b e = cc
-
-act_kept : (k : Kind) (file directory : Act) → (file ≡ Purge → ⊥) → (directory ≡ Purge → ⊥) → act_for k file directory ≡ Purge → ⊥
-act_kept File file directory f d = f
-act_kept Dir file directory f d = d
-
-file_kept : (job : Job) (moment : ℕ) (key : List (List ℕ)) (source : Facts) (c : Class) → class_act job moment key source c ≡ Purge → ⊥
-file_kept = of_class_act (λ does. does ≡ Purge → ⊥) (λ e. cc) (λ e. cc) (λ e. cc) (λ why _ e. cc)
-
-lonely_kept : (job : Job) (key : List (List ℕ)) (below : Bool) → lonely_act job key below ≡ Purge → ⊥
-lonely_kept job key below = by (is_excluded_directory job key) job.xl (is_all job.sub || below)
-  where
-    by : (a b c : Bool) → (if a then Keep reason.Excluded else if b then Keep reason.Class else if c then Make else Keep reason.Empty) ≡ Purge → ⊥
-    by true b c e = cc
-    by false true c e = cc
-    by false false true e = cc
-    by false false false e = cc
-
-standing_kept : (job : Job) (key : List (List ℕ)) (source target : Props) (k : Kind) → standing_act job key source k target ≡ Purge → ⊥
-standing_kept job key source target File = λ e. cc
-standing_kept job key source target Dir = by (is_excluded_directory job key) (differ job.dcopy source target)
-  where
-    by : (a b : Bool) → (if a then Keep reason.Excluded else if b then Touch else Keep reason.Same) ≡ Purge → ⊥
-    by true b e = cc
-    by false true e = cc
-    by false false e = cc
-
-directory_kept : (job : Job) (key : List (List ℕ)) (source : Props) (target : Option Node) (below : Bool) → directory_act job key source (option_map kind_and_props_of target) below ≡ Purge → ⊥
-directory_kept job key source None below = lonely_kept job key below
-directory_kept job key source (Some node) below = standing_kept job key source node.props node.kind
-
-extra_kept : (job : Job) (key : List (List ℕ)) (k : Kind) → extra_act job key k ≡ Purge → ⊥
-extra_kept job key File = by job.xx (is_excluded_file job key) (not (is_named job key || job.all_extras))
-  where
-    by : (a b c : Bool) → (if a then Keep reason.Class else if b then Keep reason.Excluded else if c then Keep reason.NotNamed else Extra) ≡ Purge → ⊥
-    by true b c e = cc
-    by false true c e = cc
-    by false false true e = cc
-    by false false false e = cc
-extra_kept job key Dir = by job.xx (is_excluded_directory job key)
-  where
-    by : (a b : Bool) → (if a then Keep reason.Class else if b then Keep reason.Excluded else Extra) ≡ Purge → ⊥
-    by true b e = cc
-    by false true e = cc
-    by false false e = cc
-
-abbrev IsKept : Item → Type 0
-IsKept item = (item.act ≡ Purge → ⊥) × (item.after ≡ Nothing)
-
--- nothing is purged so far, and nothing becomes of a source
-item_kept : (job : Job) (moment : ℕ) (key ours theirs : List (List ℕ)) (below : Bool) (source target : Option Node) (item : Item) → item_of job moment key ours theirs below source target ≡ Some item → IsKept item
-item_kept job moment key ours theirs below None None item e = absurd (some_none item (sym e))
-item_kept job moment key ours theirs below None (Some node) item e =
-    subst IsKept (same_item _ item e) (extra_kept job key node.kind, refl)
-item_kept job moment key ours theirs below (Some node) target item e =
-    subst IsKept (same_item _ item e) (
-      act_kept node.kind _ _
-          (file_kept job moment key (facts_of node) (class_against (grain_of job) (facts_of node) (option_map facts_of target)))
-          (directory_kept job key node.props target below),
-      refl,
-    )
-
-decided_kept : (job : Job) (told : Told) (moment : ℕ) (key : List (List ℕ)) (item : Item) → decided_at job told.source told.target moment key ≡ Some item → IsKept item
-decided_kept job told moment key item = by (is_decided job told.source told.target key)
-  where
-    by : (b : Bool) → (if b then item_of job moment key (spelled told.source key) (spelled told.target key) (some_copied job told.source told.target moment key) (get told.source key) (get told.target key) else None) ≡ Some item → IsKept item
-    by true e = item_kept job moment key (spelled told.source key) (spelled told.target key) (some_copied job told.source told.target moment key) (get told.source key) (get told.target key) item e
-    by false e = absurd (some_none item (sym e))
 
 -- the law, of the two trees of a plan
 pub law_of : (job : Job) (told : Told) (moment : ℕ) → Law → AreTrees told → (key : List (List ℕ)) (item : Item) → decided_at job told.source told.target moment key ≡ Some item → IsDecidedIn (start_in job told) moment key item
@@ -250,7 +167,7 @@ pub passable : (job : Job) (told : Told) (plan : Plan) → Law → AreTrees told
 passable job told plan law trees is key item e =
     let decided : decided_at job told.source told.target plan.moment key ≡ Some item = sym (is.items key) ∙ e in
     let says = law job told.source told.target plan.moment key item trees.source trees.target decided in
-    record { beside = says.beside; allowed = says.allowed; kept = (decided_kept job told plan.moment key item decided).0 }
+    record { beside = says.beside; allowed = says.allowed }
 
 -- and so of both sides
 pub decided_so : (items : List Item) (told : Told) → ArePassable items told → AreDecided items told
@@ -293,43 +210,33 @@ small_copies items true within is = all_small items (none_big items (unlimited (
 
 -- What stands in the end
 
--- nothing becomes of the source's entries
-source_stays : (found : Option Item) (source : Option Node) → ((item : Item) → found ≡ Some item → item.after ≡ Nothing) → source ≡ source_goal found source
-source_stays None None kept = refl
-source_stays None (Some node) kept = refl
-source_stays (Some item) None kept = refl
-source_stays (Some item) (Some node) kept = sym (ap (λ (after : After). released after node) (kept item refl))
-
 -- where each key has its item's goal, both trees are the goals
-pub mirrored : (job : Job) (plan : Plan) (start now : Told) → IsPlanOf (start_in job start) plan → HaveGoals (copying_of job plan.moment) plan.items start now.target → now.source ≡ start.source → now.notes ≡ start.notes → start.notes ≡ [] → IsMirrored (start_in job start) plan.moment now
-mirrored job plan start now is goals source notes none = record {
+pub mirrored : (job : Job) (plan : Plan) (start now : Told) → IsPlanOf (start_in job start) plan → HaveGoals (copying_of job plan.moment) plan.items start now.target → AreReleased plan.items start now.source → now.notes ≡ start.notes → start.notes ≡ [] → IsMirrored (start_in job start) plan.moment now
+mirrored job plan start now is goals released notes none = record {
   target = λ key.
       goals key
       ∙ ap (λ o. target_goal (rules_of job) (copies_bytes job) plan.moment o (get start.source key) (get start.target key)) (is.items key);
-  source = λ key.
-      ap (λ (t : Tree). get t key) source
-      ∙ source_stays (decided_at job start.source start.target plan.moment key) (get start.source key)
-      (λ item e. (decided_kept job start plan.moment key item e).1);
+  source = λ key. released key ∙ ap (λ o. source_goal o (get start.source key)) (is.items key);
   notes = notes ∙ none;
 }
 
 -- and so leave what a run that did all leaves
-pub leaves_done : (job : Job) (plan : Plan) (start now : Told) (o : Outcome) → plan.items ≡ items_at job start plan.moment → IsMirrored (start_in job start) plan.moment now → AreUnderWay (copying_of job plan.moment) plan.items start now.target → now.source ≡ start.source → now.notes ≡ start.notes → EndsAt at_report at_end ⊥ (ending o) → RunLeaves job plan.moment start now o
-leaves_done job plan start now o planned done between source notes ends = record {
+pub leaves_done : (job : Job) (plan : Plan) (start now : Told) (o : Outcome) → plan.items ≡ items_at job start plan.moment → IsMirrored (start_in job start) plan.moment now → AreUnderWay (copying_of job plan.moment) plan.items start now.target → AreReleasing plan.items start now.source → now.notes ≡ start.notes → EndsAt at_report at_end ⊥ (ending o) → RunLeaves job plan.moment start now o
+leaves_done job plan start now o planned done between releasing notes ends = record {
   mirrored = λ _. done;
   unchanged = λ early. absurd (let last = EndsAt-last at_report at_end ⊥ (ending o) ends in omega (arith, early, last));
   between = subst (λ (i : List Item). AreUnderWay (copying_of job plan.moment) i start now.target) planned between;
-  source = source;
+  releasing = subst (λ (i : List Item). AreReleasing i start now.source) planned releasing;
   notes = notes;
 }
 
 -- and what one leaves that failed on its way
-pub leaves_failed : (job : Job) (plan : Plan) (start now : Told) (o : Outcome) → plan.items ≡ items_at job start plan.moment → AreUnderWay (copying_of job plan.moment) plan.items start now.target → now.source ≡ start.source → now.notes ≡ start.notes → EndsAt at_copies at_copies ⊥ (ending o) → RunLeaves job plan.moment start now o
-leaves_failed job plan start now o planned between source notes ends = record {
+pub leaves_failed : (job : Job) (plan : Plan) (start now : Told) (o : Outcome) → plan.items ≡ items_at job start plan.moment → AreUnderWay (copying_of job plan.moment) plan.items start now.target → AreReleasing plan.items start now.source → now.notes ≡ start.notes → EndsAt at_copies at_copies ⊥ (ending o) → RunLeaves job plan.moment start now o
+leaves_failed job plan start now o planned between releasing notes ends = record {
   mirrored = λ late. absurd (let first = EndsAt-first at_copies at_copies ⊥ (ending o) ends in omega (arith, late, first));
   unchanged = λ early. absurd (let last = EndsAt-last at_copies at_copies ⊥ (ending o) ends in omega (arith, early, last));
   between = subst (λ (i : List Item). AreUnderWay (copying_of job plan.moment) i start now.target) planned between;
-  source = source;
+  releasing = subst (λ (i : List Item). AreReleasing i start now.source) planned releasing;
   notes = notes;
 }
 
@@ -338,6 +245,16 @@ pub lasting_so : (job : Job) (items : List Item) (mid start : Told) (moment last
 lasting_so job items mid start moment last seen decided told read lasting =
     subst (λ (m : ℕ). IsLasting (items_at job start m) seen) read
     (subst (λ (t : Told). IsLasting (items_at job t moment) seen) told (subst (λ (some : List Item). IsLasting some seen) decided lasting))
+
+pub in_order_so : (job : Job) (items : List Item) (mid start end : Seen) (moment last : ℕ) → items ≡ items_at job mid.told moment → mid.told ≡ start.told → mid.log ≡ start.log → moment ≡ last → ReleasesLast (copying_of job moment) items mid end → ReleasesLast (copying_of job last) (items_at job start.told last) start end
+in_order_so job items mid start end moment last decided told logged read order =
+    subst (λ (m : ℕ). Released m (items_at job start.told m) start.told start.log) read
+    (subst (λ (log : List Event). Released moment (items_at job start.told moment) start.told log) logged
+    (subst (λ (t : Told). Released moment (items_at job t moment) t mid.log) told
+    (subst (λ (some : List Item). Released moment some mid.told mid.log) decided order)))
+  where
+    Released : ℕ → List Item → Told → List Event → Type 0
+    Released m some at log = ((end.told.source ≡ at.source) × LogsOn part.Target log end.log) ⊎ IsReleasing (copying_of job m) some at log end
 
 -- What a list has none of
 
@@ -350,22 +267,23 @@ none_at p [] k d none l = absurd (omega (arith, l))
 none_at p (item ∷ items) zero d none l = (or_none (p item) (list_any p items) none).0
 none_at p (item ∷ items) (suc k) d none l = none_at p items k d (or_none (p item) (list_any p items) none).1 (omega (arith, l))
 
-put_none : (does : Act) → gives_props does ≡ false → is_copy does ≡ false → is_put does ≡ false
-put_none Make g c = absurd (true≢false g)
-put_none Touch g c = absurd (true≢false g)
-put_none Fix g c = absurd (true≢false g)
-put_none Copy g c = absurd (true≢false c)
-put_none Purge g c = refl
-put_none Extra g c = refl
-put_none Mismatch g c = refl
-put_none (Keep reason) g c = refl
+left_by : (does : Act) → gives_props does ≡ false → is_copy does ≡ false → is_purge does ≡ false → not (is_left does) ≡ false
+left_by Make g c p = absurd (true≢false g)
+left_by Touch g c p = absurd (true≢false g)
+left_by Fix g c p = absurd (true≢false g)
+left_by Copy g c p = absurd (true≢false c)
+left_by Purge g c p = absurd (true≢false p)
+left_by Extra g c p = refl
+left_by Mismatch g c p = refl
+left_by (Keep reason) g c p = refl
 
-none_put : (items : List Item) → has_any gives_props items ≡ false → copies_any items ≡ false → list_any (λ item. is_put item.act) items ≡ false
-none_put [] g c = refl
-none_put (item ∷ items) g c =
+none_changed : (items : List Item) → has_any gives_props items ≡ false → copies_any items ≡ false → has_any is_purge items ≡ false → changes_any Target items ≡ false
+none_changed [] g c p = refl
+none_changed (item ∷ items) g c p =
     let gives = or_none (gives_props item.act) (has_any gives_props items) g in
     let copies = or_none (is_copy item.act) (copies_any items) c in
-    ap (λ (b : Bool). b || list_any (λ item. is_put item.act) items) (put_none item.act gives.0 copies.0) ∙ none_put items gives.1 copies.1
+    let purges = or_none (is_purge item.act) (has_any is_purge items) p in
+    ap (λ (b : Bool). b || changes_any Target items) (left_by item.act gives.0 copies.0 purges.0) ∙ none_changed items gives.1 copies.1 purges.1
 
 -- Without an item for it, a pass leaves all as it was
 
@@ -399,17 +317,31 @@ idle_tree : (rules : Rules) (moment : ℕ) (items : List Item) (two : Told) (end
 idle_tree rules moment items two end none gives =
     same_tree end two.target (λ key. gives key ∙ idle_at rules moment items key (get two.source key) (get two.target key) none (item_at items key) refl)
 
--- behind the last pass a stop leaves what reads
-pub lasting : (rules : Rules) (moment : ℕ) (items copied : List Item) (two end : Seen) → ((tree : Tree) (old new : List Event) → LogsPass true (Gives (given rules moment) two.told) items tree old new → IsOnlyTree Target new tree) → copied ≡ items → (copies_any copied ≡ true → IsOnlyTree Target two.log two.told.target) → LogsPass (has_any gives_props items) (Gives (given rules moment) two.told) items end.told.target two.log end.log → HasPassed (given rules moment) items two.told end.told.target → IsLasting items end
-lasting rules moment items copied two end law same copies logs gives put =
+-- behind the last pass a stop leaves of the target what reads
+pub lasting : (rules : Rules) (moment : ℕ) (items copied : List Item) (one two end : Seen) → ((tree : Tree) (old new : List Event) → LogsPass true (Gives (given rules moment) two.told) items tree old new → IsOnlyTree Target new tree) → copied ≡ items → (has_any is_purge items ≡ true → IsOnlyTree Target one.log one.told.target) → (copies_any copied ≡ false → Rests one two) → (copies_any copied ≡ true → IsOnlyTree Target two.log two.told.target) → LogsPass (has_any gives_props items) (Gives (given rules moment) two.told) items end.told.target two.log end.log → HasPassed (given rules moment) items two.told end.told.target → IsLastingOn Target items end.log end.told.target
+lasting rules moment items copied one two end law same purges idle copies logs gives changes =
     by (has_any gives_props items) refl
   where
-    by_copies : has_any gives_props items ≡ false → (c : Bool) → copies_any items ≡ c → IsOnlyTree Target end.log end.told.target
-    by_copies none true some =
+    -- no properties are given: what lasted before lasts
+    on : has_any gives_props items ≡ false → IsOnlyTree Target two.log two.told.target → IsOnlyTree Target end.log end.told.target
+    on none two_lasts =
         subst (λ (log : List Event). IsOnlyTree Target log end.told.target) (sym (idle_log rules moment two.told items end.told.target two.log end.log none logs))
-        (subst (λ (tree : Tree). IsOnlyTree Target two.log tree) (sym (idle_tree rules moment items two.told end.told.target none gives))
-        (copies (ap copies_any same ∙ some)))
-    by_copies none false other = absurd (true≢false (sym put ∙ none_put items none other))
+        (subst (λ (tree : Tree). IsOnlyTree Target two.log tree) (sym (idle_tree rules moment items two.told end.told.target none gives)) two_lasts)
+
+    -- and no file is copied
+    rests : copies_any items ≡ false → IsOnlyTree Target one.log one.told.target → IsOnlyTree Target two.log two.told.target
+    rests none one_lasts =
+        let stands = idle (ap copies_any same ∙ none) in
+        subst (λ (log : List Event). IsOnlyTree Target log two.told.target) (sym stands.log)
+        (subst (λ (told : Told). IsOnlyTree Target one.log told.target) (sym stands.told) one_lasts)
+
+    by_purges : has_any gives_props items ≡ false → copies_any items ≡ false → (p : Bool) → has_any is_purge items ≡ p → IsOnlyTree Target end.log end.told.target
+    by_purges none uncopied true some = on none (rests uncopied (purges some))
+    by_purges none uncopied false other = absurd (true≢false (sym changes ∙ none_changed items none uncopied other))
+
+    by_copies : has_any gives_props items ≡ false → (c : Bool) → copies_any items ≡ c → IsOnlyTree Target end.log end.told.target
+    by_copies none true some = on none (copies (ap copies_any same ∙ some))
+    by_copies none false other = by_purges none other (has_any is_purge items) refl
 
     by : (b : Bool) → has_any gives_props items ≡ b → IsOnlyTree Target end.log end.told.target
     by true some = law end.told.target two.log end.log (subst (λ (b : Bool). LogsPass b (Gives (given rules moment) two.told) items end.told.target two.log end.log) some logs)
@@ -433,12 +365,28 @@ counts_once at retries a b c first second =
     let rose = second.0 in
     (omega (arith, low, rose), λ part. omega (arith, first part, second.1 part))
 
+finish_counts : (retries : ℕ) (result : Result (Unit {0}) FinishErr) (a b c : Part → ℕ) → Counts free a b → Counts (finish_cause retries result) b c → Counts (finish_cause retries result) a c
+finish_counts retries (Ok value) a b c first second = counts_free a b c first second
+finish_counts retries (Err (finish_err.SiteFault side)) a b c first second = counts_on (part_for side) (retries + 1) a b c first second
+finish_counts retries (Err finish_err.NoMemory) a b c first second = counts_free a b c first second
+
+-- two passes over the target
+pub two_passes : (tells : Bool) (retries : ℕ) (result : Result (Unit {0}) FinishErr) (start one end : Seen) → ChangesSide tells Target free start one → ChangesSide tells Target (finish_cause retries result) one end → ChangesSide tells Target (finish_cause retries result) start end
+two_passes tells retries result start one end first second = record {
+  other_tree = λ told. second.other_tree told ∙ first.other_tree told;
+  notes = λ told. second.notes told ∙ first.notes told;
+  log = λ told other apart. second.log told other apart ∙ first.log told other apart;
+  opened = second.opened ∙ first.opened;
+  bound = second.bound ∙ first.bound;
+  counts = finish_counts retries result start.faults one.faults end.faults first.counts second.counts;
+}
+
 -- the causes of an answer of the passes
-fault_counts : (retries : ℕ) (e : FinishErr) (a b c : Part → ℕ) → Counts free a b → Counts (finish_cause {T = Unit {0}} retries (Err e)) b c → Counts (cause_of retries (ending (unfinished e))) a c
+pub fault_counts : (retries : ℕ) (e : FinishErr) (a b c : Part → ℕ) → Counts free a b → Counts (finish_cause {T = Unit {0}} retries (Err e)) b c → Counts (cause_of retries (ending (unfinished e))) a c
 fault_counts retries (finish_err.SiteFault side) a b c first second = counts_once (part_for side) retries a b c first second
 fault_counts retries finish_err.NoMemory a b c first second = counts_free a b c first second
 
-copy_counts : (retries : ℕ) (e : CopyErr) (a b c : Part → ℕ) → Counts free a b → Counts (copy_cause {T = Unit {0}} (Err e)) b c → Counts (cause_of retries (ending (uncopied e))) a c
+pub copy_counts : (retries : ℕ) (e : CopyErr) (a b c : Part → ℕ) → Counts free a b → Counts (copy_cause {T = Unit {0}} (Err e)) b c → Counts (cause_of retries (ending (uncopied e))) a c
 copy_counts retries (copy_err.Failed side) a b c first second = counts_on (part_for side) 1 a b c first second
 copy_counts retries copy_err.NoMemory a b c first second = counts_free a b c first second
 

@@ -73,7 +73,17 @@ pub copy_waits : (seconds retries : ℕ) (e : CopyErr) (before after : Part → 
 copy_waits seconds retries (copy_err.Failed side) before after p counts = waits_never _ _ _ _ _ (one_failed (part_for side) 1 before after (omega arith) counts)
 copy_waits seconds retries copy_err.NoMemory before after p counts = unwaited_free seconds before after p counts
 
--- Words that are accepted, where memory is wanting before anything is done
+-- Words that are accepted
+
+-- what holds of the job that was read
+pub accepted_so : (words : List (List ℕ)) (read : Result Job Outcome) (job : Job) (holds : Job → Type 0) → (read ≡ asked words) ⊎ (read ≡ Err NoMemory) → read ≡ Ok job → holds job → IfAccepted words holds
+accepted_so words read job holds (inl same) is held = subst (λ (r : Result Job Outcome). IfOk r holds) (sym is ∙ same) held
+accepted_so words read job holds (inr none) is held = absurd (differ (sym is ∙ none))
+  where
+    differ : Ok job ≡ Err NoMemory → ⊥
+    differ e = cc
+
+-- where memory is wanting before anything is done
 
 abbrev error_in : Result Job Outcome → Outcome
 error_in (Ok job) = NoMemory

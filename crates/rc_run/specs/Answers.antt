@@ -20,7 +20,7 @@ use Rattle.rc_run.specs.declared.outcome.Outcome.TheVariants.{NotYet, ListFault,
 use Rattle.rc_run.specs.declared.outcome.Unbuilt.TheVariants as unbuilt
 use Rattle.rc_run.specs.Goal.{IsMirrored, items_at}
 use Rattle.rc_run.specs.Outcome.{IfDone, IsOrNoMemory, at_copies, at_limits, at_record, at_report, at_roots, at_words, ending, finished, first_step, last_step, refused}
-use Rattle.rc_run.specs.Under.{AreUnderWay}
+use Rattle.rc_run.specs.Under.{AreReleasing, AreUnderWay}
 
 -- At its start
 
@@ -83,7 +83,8 @@ pub record RunLeaves (job : Job) (moment : ℕ) (start end : Told) (outcome : Ou
   pub unchanged : last_step (ending outcome) < at_copies → end ≡ start
   -- and else each key of the target is as it was, or its item has begun to change it
   pub between : AreUnderWay (copying_of job moment) (items_at job start moment) start end.target
-  pub source : end.source ≡ start.source
+  -- and each key of the source is as it was, or has its goal
+  pub releasing : AreReleasing (items_at job start moment) start end.source
   pub notes : end.notes ≡ start.notes
 
 -- what readers were made for when a run has ended: as before, or these wants behind it, as at Done

@@ -2,7 +2,7 @@
 
 ghost use Rattle.std.specs.Prelude.{◌≡◌, ◌⊎◌, ◌+◌, ◌<◌, ◌≤◌, ◌++◌, ◌∷◌, ℕ, true, false, [], None, Some, chars, option_map, IfOk, IfErr, OnOk, min};
 ghost use Rattle.rc_class.specs.Start.{IsPlanOf};
-ghost use Rattle.rc_copy.specs.Copying.{copies_any, CopiesFiles};
+ghost use Rattle.rc_copy.specs.Copying.{copies_any};
 ghost use Rattle.rc_copy.specs.Reading.{wants_of};
 ghost use Rattle.rc_filter.specs.Acts.{copies_bytes};
 ghost use Rattle.rc_jobfiles.specs.Ask.{texts};
@@ -11,13 +11,12 @@ ghost use Rattle.rc_report.specs.Report.{bits_of, report_of, totals_of};
 ghost use Rattle.rc_volume.specs.declared.site.Part.{Part};
 ghost use Rattle.rc_volume.specs.Faults.{free, last_count, RoseBy};
 ghost use Rattle.rc_volume.specs.Frames.{Binds, IsBound, Looks};
-ghost use Rattle.rc_volume.specs.Log.{LogsOn};
 ghost use Rattle.rc_volume.specs.Streams.{AppendsFront};
 ghost use Rattle.rc_volume.specs.Waits.{Waits};
-ghost use Rattle.rc_run.specs.Answers.{is_empty, site_refusal, start_refusal, unplanned, Answers, AreBitsOf, IsExpected, IsNamed, IsOpened, IsSilentBefore, RunLeaves, Sends};
+ghost use Rattle.rc_run.specs.Answers.{copying_of, is_empty, site_refusal, start_refusal, unplanned, Answers, AreBitsOf, IsExpected, IsNamed, IsOpened, IsSilentBefore, RunLeaves, Sends};
 ghost use Rattle.rc_run.specs.Goal.{items_at, read_by};
 ghost use Rattle.rc_run.specs.Outcome.{at_copies, at_end, at_limits, at_listing, at_record, at_report, at_roots, cause_of, ending, finished, first_step, last_step, run_cause, Causes, CausesInSink, EndsAt, IfDone, IsOrNoMemory, FailedBy, WaitsFor};
-ghost use Rattle.rc_run.specs.Under.{IsLasting};
+ghost use Rattle.rc_run.specs.Under.{ChangesTrees, IsLasting, ReleasesLast};
 ghost use Rattle.rc_run.specs.Words.{asked, binding_of, root_text, IfAccepted, IfRefused};
 
 use crate::trees::change_trees;
@@ -45,7 +44,7 @@ pub struct Ended<S> {
 /// the goals of the trees at the start, at every key, and that the report and the bits are those of the same decisions.
 /// Each fault comes only where the count of its part rose in this call. Words that are refused touch nothing.
 ///
-/// A listing, and what makes directories and gives properties, is tried again as often as the job says; a copy is not.
+/// A listing, and what makes, removes and changes entries, is tried again as often as the job says; a copy is not.
 pub fn mirror_alone<S: Site, J: JobStore, K: Sink, C: Clock>(
     alloc: Global,
     words: &[String],
@@ -82,14 +81,16 @@ pub fn mirror_alone<S: Site, J: JobStore, K: Sink, C: Clock>(
     ensures leaves { S.tells ≡ true → IfAccepted (texts words.now) (λ job.
         RunLeaves job (C.last clock.new)
         (S.view site).told (S.view result.site).told result.outcome) }
-    // Where an item changed the target, a stop behind the changes leaves of it what reads, and nothing else. Nothing of
-    // the source and the record is touched.
+    // Where an item changes a side, a stop behind all changes leaves of it what reads, and nothing else. The source is
+    // changed behind the target alone, and the record is not touched.
     ensures lasting { S.tells ≡ true → IfAccepted (texts words.now) (λ job.
         at_report ≤ first_step (ending result.outcome) →
         IsLasting (items_at job (S.view site).told (C.last clock.new))
         (S.view result.site)) }
-    ensures others { S.tells ≡ true →
-        LogsOn Part.Target (S.view site).log (S.view result.site).log }
+    ensures in_order { S.tells ≡ true → IfAccepted (texts words.now) (λ job.
+        ReleasesLast (copying_of job (C.last clock.new))
+        (items_at job (S.view site).told (C.last clock.new))
+        (S.view site) (S.view result.site)) }
     ensures opened { S.tells ≡ true → IfAccepted (texts words.now) (λ job.
         IsOpened result.outcome (read_by job (C.last clock.new) (S.view site).told)
         (S.view site).opened (S.view result.site).opened) }
@@ -154,8 +155,9 @@ fn run<S: Site, K: Sink, C: Clock>(
     ensures lasting { S.tells ≡ true → at_report ≤ first_step (ending result) →
         IsLasting (items_at job.now (S.view site.old).told (C.last clock.new))
         (S.view site.new) }
-    ensures others { S.tells ≡ true →
-        LogsOn Part.Target (S.view site.old).log (S.view site.new).log }
+    ensures in_order { S.tells ≡ true → ReleasesLast (copying_of job.now (C.last clock.new))
+        (items_at job.now (S.view site.old).told (C.last clock.new))
+        (S.view site.old) (S.view site.new) }
     ensures opened { S.tells ≡ true → IsOpened result
         (read_by job.now (C.last clock.new) (S.view site.old).told)
         (S.view site.old).opened (S.view site.new).opened }
@@ -321,7 +323,7 @@ fn carry_out<S: Site, K: Sink, C: Clock>(
     requires made { IsMadeFor job.now plan.now.moment plan.now }
     requires no_record { S.tells ≡ true → (S.view site.old).told.notes ≡ [] }
 
-    ensures frame { CopiesFiles S.tells (cause_of job.now.retries (ending result))
+    ensures frame { ChangesTrees S.tells (cause_of job.now.retries (ending result))
         (S.view site.old) (S.view site.new) }
     ensures sink_cause { CausesInSink result (K.faults sink.old) (K.faults sink.new) }
     ensures ends { EndsAt at_copies at_end ⊥ (ending result) }
@@ -331,6 +333,9 @@ fn carry_out<S: Site, K: Sink, C: Clock>(
         (S.view site.old).told (S.view site.new).told result }
     ensures lasting { S.tells ≡ true → at_report ≤ first_step (ending result) →
         IsLasting plan.now.items (S.view site.new) }
+    ensures in_order { S.tells ≡ true →
+        ReleasesLast (copying_of job.now plan.now.moment) plan.now.items
+        (S.view site.old) (S.view site.new) }
     ensures opened { IsOpened result (wants_of 0 (copies_bytes job.now) plan.now.items)
         (S.view site.old).opened (S.view site.new).opened }
     ensures items { S.tells ≡ true →

@@ -77,8 +77,13 @@ SRC DST /DCOPY:A=/SD:SRC|/DD:DST|/IF|*.*|
 SRC DST /IS /IT /XX /XL /XO /XN /XC /DST /FFT=/SD:SRC|/DD:DST|/IF|*.*|/XC|/XN|/XO|/XL|/XX|/IS|/IT|/FFT|/DST|
 a:b DST=/SD:a:b|/DD:DST|/IF|*.*|
 SRC DST X=/SD:SRC|/DD:DST|/IF|X|
-SRC DST /MIR=not yet
-SRC DST /PURGE=not yet
+SRC DST /MIR=/SD:SRC|/DD:DST|/IF|*.*|/E|/PURGE|
+SRC DST /PURGE=/SD:SRC|/DD:DST|/IF|*.*|/PURGE|
+SRC DST /M=/SD:SRC|/DD:DST|/IF|*.*|/M|
+SRC DST /MOV /MOVE=/SD:SRC|/DD:DST|/IF|*.*|/MOVE|
+SRC DST /MOV=/SD:SRC|/DD:DST|/IF|*.*|/MOV|
+SRC DST /MOV /CREATE=U9 at 0
+SRC DST /MOVE /COPY:AT=U9 at 0
 SRC DST /L=not yet
 SRC DST /JOB:J=not yet
 SRC DST /SAVE:J=not yet
@@ -90,8 +95,10 @@ SRC DST /A-:A /A+:H=/SD:SRC|/DD:DST|/IF|*.*|/A+:H|/A-:A|
 SRC DST /MAXAGE:1899 /MIN:3=/SD:SRC|/DD:DST|/IF|*.*|/MIN:3|/MAXAGE:1899|
 SRC DST /MAXAGE:1900=U7 at 3
 /NOSD DST=not yet
-SRC SRC /MIR=not yet
-/MIR=not yet
+SRC SRC /MIR=U12 at 0
+/MIR=U10 at 0
+SRC SRC /L=not yet
+/L=not yet
 SRC DST /MIR /BAD=U1 at 4
 SRC DST /XF=U2 at 3
 SRC DST /SD:X=U8 at 3
@@ -108,11 +115,9 @@ SRC SRCX=/SD:SRC|/DD:SRCX|/IF|*.*|
 . a=/SD:.|/DD:a|/IF|*.*|
 ";
 
-// Lines of words with switches that have no effect in a run yet, and the job or the refusal that their settings make.
-const MERGED: &str = "SRC DST /MIR=/SD:SRC|/DD:DST|/IF|*.*|/E|/PURGE|
-SRC DST /MOV /MOVE=/SD:SRC|/DD:DST|/IF|*.*|/MOVE|
-SRC DST /MOV=/SD:SRC|/DD:DST|/IF|*.*|/MOV|
-SRC DST /MOVE /CREATE=U9
+// Lines of words, and the job that their settings make, or the kind of its refusal as a whole: also of words that have no
+// effect in a run yet.
+const MERGED: &str = "SRC DST /MOVE /CREATE=U9
 SRC DST /MOV /NOCOPY=U9
 SRC DST /MOV /COPY:AT=U9
 SRC DST /MOV /COPY:AT /SEC=/SD:SRC|/DD:DST|/IF|*.*|/MOV|/COPY:DATS|

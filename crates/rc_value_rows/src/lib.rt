@@ -1,5 +1,5 @@
-//! Worked rows of the calls on values: names, patterns, dates, words, what they ask for, jobs, classes and decisions. They
-//! stand apart from the crates that they call, which are so proved once and not once more for their tests.
+//! Worked rows of the calls on values: names, patterns, dates, words, what they ask for, jobs and classes. They stand apart
+//! from the crates that they call, which are so proved once and not once more for their tests.
 #![tactic(auto)]
 
 #[cfg(test)]
@@ -8,10 +8,6 @@ mod asks;
 mod classes;
 #[cfg(test)]
 mod dates;
-#[cfg(test)]
-mod decisions;
-#[cfg(test)]
-mod filters;
 #[cfg(test)]
 mod jobs;
 #[cfg(test)]

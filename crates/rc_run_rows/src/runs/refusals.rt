@@ -9,7 +9,7 @@ use std::test::Fail;
 
 const ROOTS: &[&str] = &["SRC", "DST"];
 
-const BAD: &[&str] = &["SRC", "DST", "/MIR"];
+const BAD: &[&str] = &["SRC", "DST", "/QUIT"];
 
 const FILE: &[Row] = &[("a.txt", b"hello", T0, A)];
 

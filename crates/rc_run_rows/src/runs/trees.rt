@@ -226,6 +226,15 @@ const RETRIED: &[Retried] = &[
         1,
         2,
     ),
+    (Call::Remove, 1, &["/MOVE", "/E", "/R:1", "/W:4"], "", 1, 4),
+    (
+        Call::Remove,
+        2,
+        &["/MOV", "/E", "/R:1", "/W:4"],
+        "ERROR: volume fault: source",
+        1,
+        4,
+    ),
 ];
 
 #[test]

@@ -8,7 +8,7 @@ use Rattle.rc_finish.proofs.directories.make.Goals as goal
 
 pub returns-in-Ok-clause-frame : goal.returns-in-Ok-clause-frame
 returns-in-Ok-clause-frame g c =
-    done_at_last (directory_at c.args.path.now) (directory_again c.args.path.now) _ _ _ _ _ _ c.loop.invariant.frame c.in-Ok.ensures.frame
+    done_at_last Target (directory_at c.args.path.now) (directory_again c.args.path.now) _ _ _ _ _ _ c.loop.invariant.frame c.in-Ok.ensures.frame
 
 pub returns-in-Ok-clause-calls : goal.returns-in-Ok-clause-calls
 returns-in-Ok-clause-calls g c = λ tells. each_then _ _ _ _ (c.loop.invariant.calls tells) (c.attempt.ensures.calls tells)
@@ -18,7 +18,7 @@ returns-in-Ok-clause-waits g c = waited_at_ok _ Target _ _ _ _ _ _ c.loop.invari
 
 pub returns-in-Err-NoMemory-clause-frame : goal.returns-in-Err-NoMemory-clause-frame
 returns-in-Err-NoMemory-clause-frame g c =
-    out_of_memory (directory_at c.args.path.now) (directory_again c.args.path.now) _ _ _ _ _ _ _ c.loop.invariant.frame c.in-Err-NoMemory.ensures.frame
+    out_of_memory Target (directory_at c.args.path.now) (directory_again c.args.path.now) _ _ _ _ _ _ _ c.loop.invariant.frame c.in-Err-NoMemory.ensures.frame
 
 pub returns-in-Err-NoMemory-clause-calls : goal.returns-in-Err-NoMemory-clause-calls
 returns-in-Err-NoMemory-clause-calls g c = λ tells. each_then _ _ _ _ (c.loop.invariant.calls tells) (c.attempt.ensures.calls tells)
@@ -30,7 +30,7 @@ pub loop-preserved : goal.loop-preserved
 loop-preserved g c =
     let once = c.in-Err-Failed.ensures.frame in
     record {
-      frame = failed_once_more (directory_at c.args.path.now) (directory_again c.args.path.now) _ _ _ _ _ _ _ c.in-Err-Failed.field-0-is c.loop.invariant.frame once;
+      frame = failed_once_more Target (directory_at c.args.path.now) (directory_again c.args.path.now) _ _ _ _ _ _ _ c.in-Err-Failed.field-0-is c.loop.invariant.frame once;
       place = λ tells. still_makable _ _ c.args.path.now (c.loop.invariant.place tells) (once.here tells) (once.elsewhere tells).others;
       calls = λ tells. each_then _ _ _ _ (c.loop.invariant.calls tells) (c.attempt.ensures.calls tells);
       always = search rules;
@@ -42,7 +42,7 @@ loop-preserved g c =
 
 pub returns-in-Ok-attempt-clause-frame : goal.returns-in-Ok-attempt-clause-frame
 returns-in-Ok-attempt-clause-frame g c =
-    done_at_last (directory_at c.args.path.now) (directory_again c.args.path.now) _ _ _ _ _ _ c.loop.invariant.frame c.in-Ok-attempt.ensures.frame
+    done_at_last Target (directory_at c.args.path.now) (directory_again c.args.path.now) _ _ _ _ _ _ c.loop.invariant.frame c.in-Ok-attempt.ensures.frame
 
 pub returns-in-Ok-attempt-clause-calls : goal.returns-in-Ok-attempt-clause-calls
 returns-in-Ok-attempt-clause-calls g c = λ tells. each_then _ _ _ _ (c.loop.invariant.calls tells) (c.attempt-2.ensures.calls tells)
@@ -52,7 +52,7 @@ returns-in-Ok-attempt-clause-waits g c = waited_at_ok _ Target _ _ _ _ _ _ c.loo
 
 pub returns-in-Err-clause-frame : goal.returns-in-Err-clause-frame
 returns-in-Err-clause-frame g c =
-    failed_at_last (directory_at c.args.path.now) (directory_again c.args.path.now) _ _ _ _ _ _ _ _ _ c.fault.ensures (omega (arith, c.loop-test.false)) c.loop.invariant.frame c.in-Err.ensures.frame
+    failed_at_last Target (directory_at c.args.path.now) (directory_again c.args.path.now) _ _ _ _ _ _ _ _ _ c.fault.ensures (omega (arith, c.loop-test.false)) c.loop.invariant.frame c.in-Err.ensures.frame
 
 pub returns-in-Err-clause-calls : goal.returns-in-Err-clause-calls
 returns-in-Err-clause-calls g c = λ tells. each_then _ _ _ _ (c.loop.invariant.calls tells) (c.attempt-2.ensures.calls tells)

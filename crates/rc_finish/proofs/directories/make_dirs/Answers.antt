@@ -3,6 +3,7 @@ use Rattle.std.specs.List.{list_any}
 use Rattle.std.proofs.lemmas.Iterator.Search.{any_from_yields_List}
 use Rattle.std.proofs.lemmas.Iterator.{YieldsList-from_slice}
 use Rattle.rc_class.specs.declared.item.Item.{Item}
+use Rattle.rc_volume.specs.declared.site.Side.TheVariants.{Target}
 use Rattle.rc_finish.specs.Calls.{LogsCalls, Makes}
 use Rattle.rc_finish.specs.Passes.{has_any, is_make, AreFit}
 use Rattle.rc_finish.proofs.PassLemmas.{pass_synced, side_synced}
@@ -14,7 +15,7 @@ make_each-requires-clause-fit g c κs within tells =
     subst (λ (items : List Item). AreFit items (g.S.Site.view c.args.site.now).told) (sym c.items-items.ensures) (c.requires.fit tells)
 
 pub returns-in-Ok-clause-frame : goal.returns-in-Ok-clause-frame
-returns-in-Ok-clause-frame g c = side_synced _ _ _ _ _ _ c.in-Ok.ensures.frame c.sync.ensures.frame
+returns-in-Ok-clause-frame g c = side_synced Target _ _ _ _ _ _ c.in-Ok.ensures.frame c.sync.ensures.frame
 
 pub returns-in-Ok-clause-waits : goal.returns-in-Ok-clause-waits
 returns-in-Ok-clause-waits g c = waits_behind _ _ _ _ _ _ _ _ c.in-Ok.ensures.waits c.sync.ensures.waits
@@ -28,4 +29,4 @@ returns-in-Ok-clause-durable g c = λ tells.
     let start = (g.S.Site.view c.args.site.now).log in
     let mid = (g.S.Site.view c.make_each.new.site).log in
     let called = subst (λ (all : List Item). LogsCalls Makes all start mid) c.items-items.ensures (c.make_each.ensures.calls tells) in
-    pass_synced c.sync.result c.any.result (has_any is_make items) Makes items (g.S.Site.view c.make_each.new.site).told (g.S.Site.view c.sync.new.site).told start mid (g.S.Site.view c.sync.new.site).log asked (c.sync.ensures.frame.told tells) called (c.sync.ensures.log tells) (c.sync.ensures.tree tells)
+    pass_synced Target c.sync.result c.any.result (has_any is_make items) Makes items (g.S.Site.view c.make_each.new.site).told (g.S.Site.view c.sync.new.site).told start mid (g.S.Site.view c.sync.new.site).log asked (c.sync.ensures.frame.told tells) called (c.sync.ensures.log tells) (c.sync.ensures.tree tells)

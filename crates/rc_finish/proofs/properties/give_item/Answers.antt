@@ -16,7 +16,7 @@ pub returns-in-Ok-Some-clause-frame : goal.returns-in-Ok-Some-clause-frame
 returns-in-Ok-Some-clause-frame g c =
     let giving = c.args.giving.now in
     let own : gives_props c.args.item.now.act ≡ true = search rules in
-    look_then _ _ _ _ _ _ _ _ _ c.in-Ok-Some.ensures.frame
+    look_then Target _ _ _ _ _ _ _ _ _ c.in-Ok-Some.ensures.frame
     (λ tells n done. done ∙ given_so giving.rules giving.moment c.args.item.now c.in-Ok-Some.from _ _ own (sym c.in-Ok-Some.field-0-is ∙ c.in-Ok-Some.ensures.found tells))
     c.give_from.ensures.frame
 

@@ -1,9 +1,7 @@
 use Rattle.std.proofs.Common.{sym, subst, ◌∙◌}
-use Rattle.rc_volume.specs.declared.site.Part.TheVariants.{Target}
 use Rattle.rc_volume.specs.Faults.{free}
 use Rattle.rc_volume.specs.Waits.{Paused, Waits}
-use Rattle.rc_volume.proofs.ImageLemmas.{logs_behind}
-use Rattle.rc_run.proofs.RunLemmas.{lasting_so, sends_so}
+use Rattle.rc_run.proofs.RunLemmas.{in_order_so, lasting_so, sends_so}
 use Rattle.rc_run.specs.Outcome.{ending, WaitsFor}
 use Rattle.rc_run.proofs.WaitLemmas.{unwaited, unwaited_free, waits_on_then}
 use Rattle.rc_run.proofs.run.run.Goals as goal
@@ -19,9 +17,11 @@ returns-clause-lasting g c = λ tells behind.
     lasting_so c.args.job.now c.in-Ok-plan.plan.items _ _ _ _ (g.S.Site.view c.carry_out.new.site) (c.carry_out.ensures.items tells)
     (c.in-Ok-plan.ensures.frame.told tells ∙ c.in-Ok.ensures.frame.told tells) (c.in-Ok-plan.ensures.made.moment ∙ c.in-Ok.ensures.moment ∙ sym (c.carry_out.ensures.last ∙ c.in-Ok-plan.ensures.last)) (c.carry_out.ensures.lasting tells behind)
 
-pub returns-clause-others : goal.returns-clause-others
-returns-clause-others g c = λ tells.
-    logs_behind Target _ _ _ (c.in-Ok-plan.ensures.frame.log tells ∙ c.in-Ok.ensures.frame.log tells) (c.carry_out.ensures.frame.log tells)
+pub returns-clause-in_order : goal.returns-clause-in_order
+returns-clause-in_order g c = λ tells.
+    in_order_so c.args.job.now c.in-Ok-plan.plan.items (g.S.Site.view c.plan.new.site) (g.S.Site.view c.args.site.now) (g.S.Site.view c.carry_out.new.site) _ _ (c.carry_out.ensures.items tells)
+    (c.in-Ok-plan.ensures.frame.told tells ∙ c.in-Ok.ensures.frame.told tells) (c.in-Ok-plan.ensures.frame.log tells ∙ c.in-Ok.ensures.frame.log tells)
+    (c.in-Ok-plan.ensures.made.moment ∙ c.in-Ok.ensures.moment ∙ sym (c.carry_out.ensures.last ∙ c.in-Ok-plan.ensures.last)) (c.carry_out.ensures.in_order tells)
 
 pub returns-in-Err-clause-waits : goal.returns-in-Err-clause-waits
 returns-in-Err-clause-waits g c =

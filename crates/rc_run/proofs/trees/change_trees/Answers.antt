@@ -1,165 +1,121 @@
--- Three passes, one behind another, bring each key of the target to its goal.
-use Rattle.std.proofs.Common.{List, refl, sym, subst, ◌∙◌}
-use Rattle.rc_class.specs.declared.item.Item.{Item}
-use Rattle.rc_class.specs.declared.rules.Rules.{Rules}
-use Rattle.rc_copy.specs.declared.copying.Copying.{Copying}
-use Rattle.rc_copy.specs.Copying.{AreBetween, AreCopyable, AreSmallCopies, CopiesFiles, copied}
-use Rattle.rc_filter.specs.Acts.{rules_of}
-use Rattle.rc_finish.specs.Passes.{HasPassed, IsPassing, given}
+-- What is done to the source comes behind the target.
+use Rattle.std.proofs.Common.{inl, refl, sym, ap, subst}
+use Rattle.std.specs.FinMap.{get}
+use Rattle.rc_tree.specs.Tree.{Tree}
+use Rattle.rc_finish.specs.Passes.{AreWhole, ToRemove}
 use Rattle.rc_plan.specs.Plan.{start_in}
 use Rattle.rc_run.specs.declared.outcome.Outcome.{Outcome}
 use Rattle.rc_run.specs.Answers.{copying_of}
 use Rattle.rc_run.specs.Outcome.{cause_of, ending, WaitsFor}
-use Rattle.rc_run.proofs.PassLemmas.{all_under_way, goals_by_passes, making_under_way, none_given}
-use Rattle.rc_run.proofs.RunLemmas.{all_passed, decided_so, given_then_failed, lasting, law_of, made_then_failed, passable, same_copying, small_copies}
-use Rattle.rc_run.proofs.WaitLemmas.{copy_waits, pass_waits, unwaited_free, waits_on_then}
+use Rattle.rc_run.specs.Under.{AreUnderWay, ChangesTrees, HaveGoals}
+use Rattle.rc_run.proofs.ReleaseLemmas.{are_releasing, calls_go_on, changes_both, lasting_on_both, pass_goes_on, released_from, releases_last}
+use Rattle.rc_run.proofs.RunLemmas.{counts_free, fault_counts, law_of}
+use Rattle.rc_run.proofs.WaitLemmas.{pass_waits, waits_on_then}
 use Rattle.rc_run.proofs.trees.change_trees.Goals as goal
 
-pub make_dirs-requires-clause-fit : goal.make_dirs-requires-clause-fit
-make_dirs-requires-clause-fit g c κs within = λ tells.
+pub release_sources-requires-clause-whole : goal.release_sources-requires-clause-whole
+release_sources-requires-clause-whole g c κs within = λ tells.
     let job = c.args.job.now in
     let plan = c.args.plan.now in
     let start = (g.S.Site.view c.args.site.now).told in
-    c.a_plan_fits.ensures.fit (start_in job start) plan start (c.requires.plan tells)
-    (law_of job start plan.moment c.decided_items.ensures (c.requires.trees tells)) refl refl
-
-pub copy_files-requires-clause-small : goal.copy_files-requires-clause-small
-copy_files-requires-clause-small g c κs within = λ with_bytes.
-    subst AreSmallCopies (sym c.items.ensures) (small_copies c.args.plan.now.items c.args.plan.now.with_bytes c.requires.made.limits with_bytes)
-
-pub copy_files-requires-clause-copyable : goal.copy_files-requires-clause-copyable
-copy_files-requires-clause-copyable g c κs within = λ tells.
-    let job = c.args.job.now in
-    let plan = c.args.plan.now in
-    let start = (g.S.Site.view c.args.site.now).told in
-    let one = (g.S.Site.view c.make_dirs.new.site).told in
-    subst (λ (items : List Item). AreCopyable one items) (sym c.items.ensures)
-    (c.files_follow_their_directories.ensures plan.items start one c.requires.made.rising c.requires.made.below
+    subst (λ (t : Tree). AreWhole ToRemove plan.items t) (sym (c.in-Ok.ensures.frame.source tells))
+    (c.trees_on_their_way_fit.ensures.freeing plan.items start
     (c.a_plan_fits.ensures.fit (start_in job start) plan start (c.requires.plan tells)
-    (law_of job start plan.moment c.decided_items.ensures (c.requires.trees tells)) refl refl)
-    (decided_so plan.items start (passable job start plan c.decided_items.ensures (c.requires.trees tells) (c.requires.plan tells)))
-    (c.in-Ok.ensures.frame.other_tree tells) (c.in-Ok.ensures.made tells))
+    (law_of job start plan.moment c.decided_items.ensures (c.requires.trees tells)) refl refl))
 
-pub returns-in-Ok-props_pass-clause-frame : goal.returns-in-Ok-props_pass-clause-frame
-returns-in-Ok-props_pass-clause-frame g c =
-    all_passed g.S.Site.tells _ _ _ _ c.in-Ok.ensures.frame c.in-Ok-copy_files.ensures.frame c.in-Ok-props_pass.ensures.frame
+pub returns-in-Ok-release_sources-clause-frame : goal.returns-in-Ok-release_sources-clause-frame
+returns-in-Ok-release_sources-clause-frame g c =
+    changes_both g.S.Site.tells _ _ _ _ _ c.in-Ok.ensures.frame c.in-Ok-release_sources.ensures.frame
+    (counts_free _ _ _ c.in-Ok.ensures.frame.counts c.in-Ok-release_sources.ensures.frame.counts)
 
-pub returns-in-Ok-props_pass-clause-goals : goal.returns-in-Ok-props_pass-clause-goals
-returns-in-Ok-props_pass-clause-goals g c = λ tells.
+pub returns-in-Ok-release_sources-clause-goals : goal.returns-in-Ok-release_sources-clause-goals
+returns-in-Ok-release_sources-clause-goals g c = λ tells.
     let job = c.args.job.now in
     let plan = c.args.plan.now in
-    let start = (g.S.Site.view c.args.site.now).told in
-    let one = (g.S.Site.view c.make_dirs.new.site).told in
-    let two = (g.S.Site.view c.copy_files.new.site).told in
-    let end = (g.S.Site.view c.props_pass.new.site).told in
-    let same = same_copying job plan c.rules.result c.rules.ensures c.requires.made.with_bytes in
-    goals_by_passes (copying_of job plan.moment) plan.items start one two end
-    (passable job start plan c.decided_items.ensures (c.requires.trees tells) (c.requires.plan tells))
-    (c.in-Ok.ensures.frame.other_tree tells) (c.in-Ok-copy_files.ensures.frame.source tells ∙ c.in-Ok.ensures.frame.other_tree tells)
-    (c.in-Ok.ensures.made tells)
-    (subst (λ (items : List Item). HasPassed (copied (copying_of job plan.moment)) items one two.target) c.items.ensures
-    (subst (λ (copying : Copying). HasPassed (copied copying) c.items.result.now one two.target) same (c.in-Ok-copy_files.ensures.copied tells)))
-    (subst (λ (rules : Rules). HasPassed (given rules plan.moment) plan.items two end.target) c.rules-in-Ok-copy_files.ensures (c.in-Ok-props_pass.ensures.given tells))
+    subst (λ (t : Tree). HaveGoals (copying_of job plan.moment) plan.items (g.S.Site.view c.args.site.now).told t)
+    (sym (c.in-Ok-release_sources.ensures.frame.other_tree tells)) (c.in-Ok.ensures.goals tells)
 
-pub returns-in-Ok-props_pass-clause-under_way : goal.returns-in-Ok-props_pass-clause-under_way
-returns-in-Ok-props_pass-clause-under_way g c = λ tells.
+pub returns-in-Ok-release_sources-clause-released : goal.returns-in-Ok-release_sources-clause-released
+returns-in-Ok-release_sources-clause-released g c = λ tells.
+    let items = c.args.plan.now.items in
+    let mid = (g.S.Site.view c.change_target.new.site).told in
+    released_from items (g.S.Site.view c.args.site.now).told mid (g.S.Site.view c.release_sources.new.site).told.source
+    (c.in-Ok.ensures.frame.source tells)
+    (c.a_freed_source_has_its_goal.ensures items mid (g.S.Site.view c.release_sources.new.site).told.source (c.in-Ok-release_sources.ensures.freed tells))
+
+pub returns-in-Ok-release_sources-clause-under_way : goal.returns-in-Ok-release_sources-clause-under_way
+returns-in-Ok-release_sources-clause-under_way g c = λ tells.
     let job = c.args.job.now in
     let plan = c.args.plan.now in
-    let start = (g.S.Site.view c.args.site.now).told in
-    let one = (g.S.Site.view c.make_dirs.new.site).told in
-    let two = (g.S.Site.view c.copy_files.new.site).told in
-    let end = (g.S.Site.view c.props_pass.new.site).told in
-    let same = same_copying job plan c.rules.result c.rules.ensures c.requires.made.with_bytes in
-    all_under_way (copying_of job plan.moment) plan.items start one two end.target
-    (passable job start plan c.decided_items.ensures (c.requires.trees tells) (c.requires.plan tells))
-    (c.in-Ok.ensures.frame.other_tree tells) (c.in-Ok-copy_files.ensures.frame.source tells ∙ c.in-Ok.ensures.frame.other_tree tells)
-    (c.in-Ok.ensures.made tells)
-    (subst (λ (items : List Item). AreBetween (copying_of job plan.moment) items one two.target) c.items.ensures
-    (subst (λ (copying : Copying). AreBetween copying c.items.result.now one two.target) same (c.in-Ok-copy_files.ensures.between tells)))
-    (subst (λ (rules : Rules). IsPassing (given rules plan.moment) plan.items two end.target) c.rules-in-Ok-copy_files.ensures (c.in-Ok-props_pass.ensures.between tells))
+    subst (λ (t : Tree). AreUnderWay (copying_of job plan.moment) plan.items (g.S.Site.view c.args.site.now).told t)
+    (sym (c.in-Ok-release_sources.ensures.frame.other_tree tells)) (c.in-Ok.ensures.under_way tells)
 
-pub returns-in-Ok-props_pass-clause-lasting : goal.returns-in-Ok-props_pass-clause-lasting
-returns-in-Ok-props_pass-clause-lasting g c = λ tells.
+pub returns-in-Ok-release_sources-clause-releasing : goal.returns-in-Ok-release_sources-clause-releasing
+returns-in-Ok-release_sources-clause-releasing g c = λ tells.
+    are_releasing c.args.plan.now.items (g.S.Site.view c.args.site.now).told (g.S.Site.view c.change_target.new.site).told (g.S.Site.view c.release_sources.new.site).told.source
+    (c.in-Ok.ensures.frame.source tells) (c.release_sources.ensures.between tells)
+
+pub returns-in-Ok-release_sources-clause-in_order : goal.returns-in-Ok-release_sources-clause-in_order
+returns-in-Ok-release_sources-clause-in_order g c = λ tells.
+    let job = c.args.job.now in
     let plan = c.args.plan.now in
-    let two = g.S.Site.view c.copy_files.new.site in
-    let rules = c.rules-in-Ok-copy_files.result in
-    lasting rules plan.moment plan.items c.items.result.now two (g.S.Site.view c.props_pass.new.site)
-    (λ tree old new. c.a_pass_is_durable.ensures.given rules plan.moment two.told plan.items tree old new)
-    c.items.ensures (c.in-Ok-copy_files.ensures.durable tells) (c.in-Ok-props_pass.ensures.durable tells) (c.in-Ok-props_pass.ensures.given tells)
+    let mid = g.S.Site.view c.change_target.new.site in
+    let end = g.S.Site.view c.release_sources.new.site in
+    releases_last (copying_of job plan.moment) plan.items (g.S.Site.view c.args.site.now) mid end
+    (c.in-Ok.ensures.frame.log tells) (c.in-Ok.ensures.goals tells) (c.in-Ok.ensures.lasting tells)
+    (c.in-Ok-release_sources.ensures.frame.other_tree tells)
+    (pass_goes_on mid.told plan.items _ end.told.source mid.log end.log (c.in-Ok-release_sources.ensures.durable tells))
 
-pub returns-in-Err-props_pass-clause-frame : goal.returns-in-Err-props_pass-clause-frame
-returns-in-Err-props_pass-clause-frame g c =
+pub returns-in-Ok-release_sources-clause-lasting : goal.returns-in-Ok-release_sources-clause-lasting
+returns-in-Ok-release_sources-clause-lasting g c = λ tells.
+    lasting_on_both c.args.plan.now.items (g.S.Site.view c.change_target.new.site) (g.S.Site.view c.release_sources.new.site)
+    c.a_pass_is_durable.ensures.freed (c.in-Ok.ensures.lasting tells) (c.in-Ok-release_sources.ensures.frame.log tells)
+    (c.in-Ok-release_sources.ensures.frame.other_tree tells) (c.in-Ok-release_sources.ensures.durable tells)
+
+pub returns-in-Ok-release_sources-clause-waits : goal.returns-in-Ok-release_sources-clause-waits
+returns-in-Ok-release_sources-clause-waits g c = waits_on_then _ _ _ _ _ _ _ _ c.in-Ok.ensures.waits c.in-Ok-release_sources.ensures.waits
+
+pub returns-in-Err-release_sources-clause-frame : goal.returns-in-Err-release_sources-clause-frame
+returns-in-Err-release_sources-clause-frame g c =
+    let retries = c.args.job.now.retries in
     let start = g.S.Site.view c.args.site.now in
-    let end = g.S.Site.view c.props_pass.new.site in
-    subst (λ (o : Outcome). CopiesFiles g.S.Site.tells (cause_of c.args.job.now.retries (ending o)) start end) (sym c.unfinished.ensures)
-    (given_then_failed c.args.job.now.retries g.S.Site.tells c.in-Err-props_pass.e _ _ _ _ c.in-Ok.ensures.frame c.in-Ok-copy_files.ensures.frame c.in-Err-props_pass.ensures.frame)
+    let end = g.S.Site.view c.release_sources.new.site in
+    subst (λ (o : Outcome). ChangesTrees g.S.Site.tells (cause_of retries (ending o)) start end) (sym c.unfinished.ensures)
+    (changes_both g.S.Site.tells _ _ _ _ _ c.in-Ok.ensures.frame c.in-Err-release_sources.ensures.frame
+    (fault_counts retries c.in-Err-release_sources.e _ _ _ c.in-Ok.ensures.frame.counts c.in-Err-release_sources.ensures.frame.counts))
 
-pub returns-in-Err-props_pass-clause-under_way : goal.returns-in-Err-props_pass-clause-under_way
-returns-in-Err-props_pass-clause-under_way g c = λ tells.
+pub returns-in-Err-release_sources-clause-under_way : goal.returns-in-Err-release_sources-clause-under_way
+returns-in-Err-release_sources-clause-under_way g c = λ tells.
     let job = c.args.job.now in
     let plan = c.args.plan.now in
-    let start = (g.S.Site.view c.args.site.now).told in
-    let one = (g.S.Site.view c.make_dirs.new.site).told in
-    let two = (g.S.Site.view c.copy_files.new.site).told in
-    let end = (g.S.Site.view c.props_pass.new.site).told in
-    let same = same_copying job plan c.rules.result c.rules.ensures c.requires.made.with_bytes in
-    all_under_way (copying_of job plan.moment) plan.items start one two end.target
-    (passable job start plan c.decided_items.ensures (c.requires.trees tells) (c.requires.plan tells))
-    (c.in-Ok.ensures.frame.other_tree tells) (c.in-Ok-copy_files.ensures.frame.source tells ∙ c.in-Ok.ensures.frame.other_tree tells)
-    (c.in-Ok.ensures.made tells)
-    (subst (λ (items : List Item). AreBetween (copying_of job plan.moment) items one two.target) c.items.ensures
-    (subst (λ (copying : Copying). AreBetween copying c.items.result.now one two.target) same (c.in-Ok-copy_files.ensures.between tells)))
-    (subst (λ (rules : Rules). IsPassing (given rules plan.moment) plan.items two end.target) c.rules-in-Ok-copy_files.ensures (c.in-Err-props_pass.ensures.between tells))
+    subst (λ (t : Tree). AreUnderWay (copying_of job plan.moment) plan.items (g.S.Site.view c.args.site.now).told t)
+    (sym (c.in-Err-release_sources.ensures.frame.other_tree tells)) (c.in-Ok.ensures.under_way tells)
 
-pub returns-in-Err-copy_files-clause-frame : goal.returns-in-Err-copy_files-clause-frame
-returns-in-Err-copy_files-clause-frame g c =
-    let start = g.S.Site.view c.args.site.now in
-    let two = g.S.Site.view c.copy_files.new.site in
-    subst (λ (o : Outcome). CopiesFiles g.S.Site.tells (cause_of c.args.job.now.retries (ending o)) start two) (sym c.uncopied.ensures)
-    (made_then_failed c.args.job.now.retries g.S.Site.tells c.in-Err-copy_files.e _ _ _ c.in-Ok.ensures.frame c.in-Err-copy_files.ensures.frame)
+pub returns-in-Err-release_sources-clause-releasing : goal.returns-in-Err-release_sources-clause-releasing
+returns-in-Err-release_sources-clause-releasing g c = λ tells.
+    are_releasing c.args.plan.now.items (g.S.Site.view c.args.site.now).told (g.S.Site.view c.change_target.new.site).told (g.S.Site.view c.release_sources.new.site).told.source
+    (c.in-Ok.ensures.frame.source tells) (c.release_sources.ensures.between tells)
 
-pub returns-in-Err-copy_files-clause-under_way : goal.returns-in-Err-copy_files-clause-under_way
-returns-in-Err-copy_files-clause-under_way g c = λ tells.
+pub returns-in-Err-release_sources-clause-in_order : goal.returns-in-Err-release_sources-clause-in_order
+returns-in-Err-release_sources-clause-in_order g c = λ tells.
     let job = c.args.job.now in
     let plan = c.args.plan.now in
-    let start = (g.S.Site.view c.args.site.now).told in
-    let one = (g.S.Site.view c.make_dirs.new.site).told in
-    let two = (g.S.Site.view c.copy_files.new.site).told in
-    let same = same_copying job plan c.rules.result c.rules.ensures c.requires.made.with_bytes in
-    all_under_way (copying_of job plan.moment) plan.items start one two two.target
-    (passable job start plan c.decided_items.ensures (c.requires.trees tells) (c.requires.plan tells))
-    (c.in-Ok.ensures.frame.other_tree tells) (c.in-Err-copy_files.ensures.frame.source tells ∙ c.in-Ok.ensures.frame.other_tree tells)
-    (c.in-Ok.ensures.made tells)
-    (subst (λ (items : List Item). AreBetween (copying_of job plan.moment) items one two.target) c.items.ensures
-    (subst (λ (copying : Copying). AreBetween copying c.items.result.now one two.target) same (c.in-Err-copy_files.ensures.between tells)))
-    (none_given (given (rules_of job) plan.moment) plan.items two)
+    let mid = g.S.Site.view c.change_target.new.site in
+    let end = g.S.Site.view c.release_sources.new.site in
+    releases_last (copying_of job plan.moment) plan.items (g.S.Site.view c.args.site.now) mid end
+    (c.in-Ok.ensures.frame.log tells) (c.in-Ok.ensures.goals tells) (c.in-Ok.ensures.lasting tells)
+    (c.in-Err-release_sources.ensures.frame.other_tree tells)
+    (calls_go_on mid.told plan.items mid.log end.log (c.in-Err-release_sources.ensures.calls tells))
 
-pub returns-in-Err-clause-under_way : goal.returns-in-Err-clause-under_way
-returns-in-Err-clause-under_way g c = λ tells.
+pub returns-in-Err-release_sources-clause-waits : goal.returns-in-Err-release_sources-clause-waits
+returns-in-Err-release_sources-clause-waits g c =
     let job = c.args.job.now in
-    let plan = c.args.plan.now in
-    let start = (g.S.Site.view c.args.site.now).told in
-    making_under_way (copying_of job plan.moment) plan.items start (g.S.Site.view c.make_dirs.new.site).told.target (c.in-Err.ensures.between tells)
+    subst (λ (o : Outcome). WaitsFor job.wait job.retries o (g.S.Site.view c.args.site.now) (g.S.Site.view c.release_sources.new.site) (g.C.Clock.paused c.args.clock.now) (g.C.Clock.paused c.release_sources.new.clock)) (sym c.unfinished.ensures)
+    (waits_on_then _ _ _ _ _ _ _ _ c.in-Ok.ensures.waits
+    (pass_waits job.wait job.retries c.in-Err-release_sources.e _ _ _ _ c.in-Err-release_sources.ensures.waits))
 
-pub returns-in-Ok-props_pass-clause-waits : goal.returns-in-Ok-props_pass-clause-waits
-returns-in-Ok-props_pass-clause-waits g c =
-    waits_on_then _ _ _ _ _ _ _ _ (waits_on_then _ _ _ _ _ _ _ _ c.in-Ok.ensures.waits (unwaited_free _ _ _ _ c.in-Ok-copy_files.ensures.frame.counts)) c.in-Ok-props_pass.ensures.waits
+pub returns-in-Err-clause-releasing : goal.returns-in-Err-clause-releasing
+returns-in-Err-clause-releasing g c = λ tells key. inl (ap (λ (t : Tree). get t key) (c.in-Err.ensures.frame.source tells))
 
-pub returns-in-Err-props_pass-clause-waits : goal.returns-in-Err-props_pass-clause-waits
-returns-in-Err-props_pass-clause-waits g c =
-    let job = c.args.job.now in
-    subst (λ (o : Outcome). WaitsFor job.wait job.retries o (g.S.Site.view c.args.site.now) (g.S.Site.view c.props_pass.new.site) (g.C.Clock.paused c.args.clock.now) (g.C.Clock.paused c.props_pass.new.clock)) (sym c.unfinished.ensures)
-    (waits_on_then _ _ _ _ _ _ _ _ (waits_on_then _ _ _ _ _ _ _ _ c.in-Ok.ensures.waits (unwaited_free _ _ _ _ c.in-Ok-copy_files.ensures.frame.counts))
-    (pass_waits job.wait job.retries c.in-Err-props_pass.e _ _ _ _ c.in-Err-props_pass.ensures.waits))
-
-pub returns-in-Err-copy_files-clause-waits : goal.returns-in-Err-copy_files-clause-waits
-returns-in-Err-copy_files-clause-waits g c =
-    let job = c.args.job.now in
-    subst (λ (o : Outcome). WaitsFor job.wait job.retries o (g.S.Site.view c.args.site.now) (g.S.Site.view c.copy_files.new.site) (g.C.Clock.paused c.args.clock.now) (g.C.Clock.paused c.make_dirs.new.clock)) (sym c.uncopied.ensures)
-    (waits_on_then _ _ _ _ _ _ _ _ c.in-Ok.ensures.waits (copy_waits job.wait job.retries c.in-Err-copy_files.e _ _ _ c.in-Err-copy_files.ensures.frame.counts))
-
-pub returns-in-Err-clause-waits : goal.returns-in-Err-clause-waits
-returns-in-Err-clause-waits g c =
-    let job = c.args.job.now in
-    subst (λ (o : Outcome). WaitsFor job.wait job.retries o (g.S.Site.view c.args.site.now) (g.S.Site.view c.make_dirs.new.site) (g.C.Clock.paused c.args.clock.now) (g.C.Clock.paused c.make_dirs.new.clock)) (sym c.unfinished-in-Err.ensures)
-    (pass_waits job.wait job.retries c.in-Err.e _ _ _ _ c.in-Err.ensures.waits)
+pub returns-in-Err-clause-in_order : goal.returns-in-Err-clause-in_order
+returns-in-Err-clause-in_order g c = λ tells. inl (c.in-Err.ensures.frame.source tells, c.in-Err.ensures.frame.log tells)
