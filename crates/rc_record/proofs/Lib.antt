@@ -4,10 +4,14 @@ pub mod Counts
 pub mod Decided
 pub mod Lengths
 pub mod MarkBytes
+pub mod Marked
 pub mod Paths
 pub mod Pieces
 pub mod Places
 pub mod Puts
+pub mod ReadItem
+pub mod ReadPlan
+pub mod ReadRecord
 pub mod Rising
 pub mod Since
 pub mod SpelledItem

@@ -12,11 +12,11 @@ use Rattle.rc_volume.specs.declared.site.SiteErr.{SiteErr}
 use Rattle.rc_record.specs.Grammar.{is_open, stands, stands_at}
 use Rattle.rc_record.specs.Moments.{EachNow, EachSince, Grows}
 use Rattle.rc_record.specs.Spelling.{closed_record, mark_count, no_marks, open_record, plan_bytes, record_of, IsAllowed, IsTyped}
-use Rattle.rc_record.specs.Writing.{mark_number, IsBegun, IsClearedImage, IsKept, IsMarkedBy, IsMarkedImage, IsOpenOf, IsOpened, LogsStep, StandsForNothing, StandsForPlan}
+use Rattle.rc_record.specs.Writing.{mark_number, unmarked, BeginsOpen, HasPlace, IsBegun, IsClearedImage, IsKept, IsMarkedBy, IsMarkedImage, IsOpenOf, IsOpened, LogsStep, StandsFor, StandsForNothing, StandsMarked}
 use Rattle.rc_record.specs.declared.marks.MarkPlace.{MarkPlace}
 use Rattle.rc_record.proofs.Closed.{begins_closed, closed, closed_cut, no_gate, short, some_is}
-use Rattle.rc_record.proofs.Since.{each_only, grows_len, kept_step, now_since, since_step, then_step}
-use Rattle.rc_record.proofs.SpelledRecord.{stands_so}
+use Rattle.rc_record.proofs.Since.{each_only, grows_len, kept_step, now_since, since_step, since_weaker, then_step}
+use Rattle.rc_record.proofs.Marked.{image_stands, stands_unmarked}
 
 -- the same byte in two lists
 same_at : (one two : List ℕ) (i : ℕ) → i < length one → i < length two → slice_get one i ≡ slice_get two i → get_or one i 0 ≡ get_or two i 0
@@ -62,14 +62,13 @@ closed_gate gate later is = closed (gate ∷ later) (ap (λ b. ltb 1 (length (ga
 
 -- nothing, or the plan with no mark
 abbrev pub Opens : Plan → List ℕ → Type 0
-Opens plan image = StandsForNothing image ⊎ StandsForPlan plan (no_marks plan) image
+Opens plan image = StandsForNothing image ⊎ StandsFor (unmarked plan) image
 
 -- the plan's record with any byte for its gate
 any_gate : (plan : Plan) (gate : ℕ) → IsAllowed plan → IsTyped plan → Opens plan (record_of gate plan (no_marks plan))
 any_gate plan gate allowed typed = elim (gate_cases gate) [
   | inl opened ↦
-      (let so : StandsForPlan plan (no_marks plan) (open_record plan) = stands_so plan (no_marks plan) allowed typed (length-replicate (mark_count plan) 0) in
-      inr (subst (λ g. StandsForPlan plan (no_marks plan) (record_of g plan (no_marks plan))) (sym opened) so))
+      inr (subst (λ g. StandsFor (unmarked plan) (record_of g plan (no_marks plan))) (sym opened) (stands_unmarked plan allowed typed))
   | inr shut ↦ inl (closed_gate gate (plan_bytes plan ++ no_marks plan) shut)
 ]
 
@@ -147,6 +146,14 @@ mark_images result plan place off old new here lt opened logged put =
     (λ before image left by. record { before = before; byte = _; left = left; by = torn_mark plan place before image lt (opened.each before left) (subst (λ k. IsTornBytes k 1 before image) here by) })
     (if_ok result (λ is. record { before = old.told.notes; byte = 0xA5; left = opened.left; by = put_mark plan place old.told.notes new.told.notes lt opened.reads (subst (λ k. new.told.notes ≡ take k old.told.notes ++ (0xA5 ∷ []) ++ drop (k + 1) old.told.notes) here is) }) put)
 
+-- what they stand for
+pub mark_stands : {T : Type 0} (result : Result T SiteErr) (plan : Plan) (place : MarkPlace) (off : ℕ) (old new : Seen) → IsAllowed plan → HasPlace plan place → off ≡ 1 + length (plan_bytes plan) + mark_number plan place → mark_number plan place < mark_count plan
+    → IsOpened plan old → LogsStep result (write off 1) new.told.notes old.log new.log
+    → IfOk result (λ _. new.told.notes ≡ take off old.told.notes ++ (0xA5 ∷ []) ++ drop (off + 1) old.told.notes) → EachSince new.log (length old.log) (StandsMarked place old.log)
+mark_stands result plan place off old new allowed has here lt opened logged put =
+    since_weaker new.log (length old.log) (IsMarkedImage plan place old.log) (StandsMarked place old.log) (λ image marked. image_stands plan place old.log image allowed opened.typed has marked)
+    (mark_images result plan place off old new here lt opened logged put)
+
 -- Clearing
 
 pub open_begins : (notes : List ℕ) → is_open notes ≡ true → (later : List ℕ) × (notes ≡ 0xA5 ∷ later)
@@ -156,10 +163,14 @@ open_begins (gate ∷ later) opened = elim (gate_cases gate) [
   | inr shut ↦ absurd (let no : true ≡ false = sym opened ∙ (ap (λ b. ltb 1 (length (gate ∷ later)) && b) shut ∙ no_gate (ltb 1 (length (gate ∷ later)))) in cc)
 ]
 
+begins_open : (notes : List ℕ) → BeginsOpen notes → (later : List ℕ) × (notes ≡ 0xA5 ∷ later)
+begins_open [] is = absurd cc
+begins_open (gate ∷ later) is = (later, ap (λ g. g ∷ later) (some_is gate 0xA5 is))
+
 -- the gate of an open record is written
-cleared_torn : (log : List Event) (old new : List ℕ) → MayLeaveNotes log old → is_open old ≡ true → IsTornBytes 0 1 old new → IsClearedImage log new
+cleared_torn : (log : List Event) (old new : List ℕ) → MayLeaveNotes log old → BeginsOpen old → IsTornBytes 0 1 old new → IsClearedImage log new
 cleared_torn log old new left opened by =
-    let begins = open_begins old opened in
+    let begins = begins_open old opened in
     let some : 0 < length old = omega (arith, ap length begins.1) in
     let is : new ≡ get_or new 0 0 ∷ begins.0 = torn_at 0 old new some by ∙ ap (λ (t : List ℕ). set t 0 (get_or new 0 0)) begins.1 in
     elim (gate_cases (get_or new 0 0)) [
@@ -174,7 +185,7 @@ closes old new put = put
 cut_short : (old new : List ℕ) → length old ≤ 1 → IsCutBytes 0 old new → StandsForNothing new
 cut_short old new le by = short new (omega (arith, by.no_longer, le))
 
-pub clear_images : {T : Type 0} (result : Result T SiteErr) (old new : Seen) → EachNow old.log (λ image. is_open image ≡ true) → LogsStep result (write 0 1) new.told.notes old.log new.log
+pub clear_images : {T : Type 0} (result : Result T SiteErr) (old new : Seen) → EachNow old.log BeginsOpen → LogsStep result (write 0 1) new.told.notes old.log new.log
     → IfOk result (λ _. new.told.notes ≡ take 0 old.told.notes ++ (0 ∷ []) ++ drop (0 + 1) old.told.notes) → EachSince new.log (length old.log) (IsClearedImage old.log)
 clear_images result old new each logged put =
     since_step result (write 0 1) new.told.notes old.log new.log (IsClearedImage old.log) logged

@@ -4,17 +4,17 @@ use Rattle.std.specs.Prelude.{IfOk}
 use Rattle.std.proofs.lemmas.Bool.{cases_lt}
 use Rattle.std.proofs.lemmas.List.{take_all, take-append-le}
 use Rattle.rc_volume.proofs.ImageLemmas.{each_notes_step, logs_then, one_notes_step, only_notes}
-use Rattle.rc_volume.proofs.ReadLemmas.{write_steps}
+use Rattle.rc_volume.proofs.ReadLemmas.{cut_steps, write_steps}
 use Rattle.rc_volume.specs.Faults.{Cause, Counts, free, never, on, quiet}
 use Rattle.rc_volume.specs.declared.site.Part.{Part}
 use Rattle.rc_volume.specs.declared.site.Part.TheVariants.{Record}
 use Rattle.rc_volume.specs.Images.{AreOnlyNotes, MayLeaveNotes, StepsNotes}
-use Rattle.rc_volume.specs.Log.{Event, Logs, LogsSync, NotesCall, noted, notes_synced, write}
-use Rattle.rc_volume.specs.Site.{Seen, Told, Writes}
+use Rattle.rc_volume.specs.Log.{Event, Logs, LogsSync, NotesCall, cut, noted, notes_synced, write}
+use Rattle.rc_volume.specs.Site.{Cuts, Seen, Told, Writes}
 use Rattle.rc_volume.specs.declared.site.SiteErr.{SiteErr}
 use Rattle.rc_volume.specs.declared.site.SiteErr.TheVariants.{Failed, NoMemory}
 use Rattle.rc_record.specs.Moments.{EachNow, EachSince, Grows}
-use Rattle.rc_record.specs.Writing.{ChangesRecord, IsKept, LogsCall, LogsStep}
+use Rattle.rc_record.specs.Writing.{ChangesRecord, IsKept, LogsCall, LogsStep, ReadsLeft}
 
 -- Growing
 
@@ -190,7 +190,7 @@ changes_then tells cause old mid new one two = record {
 -- What reads stays something that a stop may leave
 
 pub left_by_write : {T : Type 0} (result : Result T SiteErr) (off : ℕ) (bytes : List ℕ) (old new : Seen) → off ≤ length old.told.notes → Writes result off bytes old.told.notes new.told.notes
-    → Logs result (noted (write off (length bytes))) old.log new.log → MayLeaveNotes old.log old.told.notes → MayLeaveNotes new.log new.told.notes
+    → Logs result (noted (write off (length bytes))) old.log new.log → ReadsLeft old → ReadsLeft new
 left_by_write (Ok value) off bytes old new le by logged left =
     subst (λ log. MayLeaveNotes log new.told.notes) (sym logged) (each_notes_step old.log (write off (length bytes)) old.told.notes new.told.notes left (write_steps (Ok value) off bytes old.told.notes new.told.notes le by))
 left_by_write (Err Failed) off bytes old new le by logged left =
@@ -200,6 +200,18 @@ left_by_write {T} (Err NoMemory) off bytes old new le by (inr logged) left =
     subst (λ log. MayLeaveNotes log new.told.notes) (sym logged)
     (each_notes_step old.log (write off (length bytes)) old.told.notes new.told.notes left (write_steps {T = T} (Err NoMemory) off bytes old.told.notes new.told.notes le by))
 
-pub left_by_sync : {T : Type 0} (result : Result T SiteErr) (old new : Seen) → LogsSync result (notes_synced old.told.notes) old.log new.log → new.told ≡ old.told → MayLeaveNotes old.log old.told.notes → MayLeaveNotes new.log new.told.notes
+pub left_by_cut : {T : Type 0} (result : Result T SiteErr) (len : ℕ) (old new : Seen) → Cuts result len old.told.notes new.told.notes → Logs result (noted (cut len)) old.log new.log → ReadsLeft old → ReadsLeft new
+left_by_cut (Ok value) len old new by logged left =
+    subst (λ log. MayLeaveNotes log new.told.notes) (sym logged) (each_notes_step old.log (cut len) old.told.notes new.told.notes left (cut_steps (Ok value) len old.told.notes new.told.notes by))
+left_by_cut (Err Failed) len old new by logged left =
+    subst (λ log. MayLeaveNotes log new.told.notes) (sym logged) (each_notes_step old.log (cut len) old.told.notes new.told.notes left by)
+left_by_cut (Err NoMemory) len old new by (inl same) left = subst (λ log. MayLeaveNotes log new.told.notes) (sym same) (subst (MayLeaveNotes old.log) (sym by) left)
+left_by_cut {T} (Err NoMemory) len old new by (inr logged) left =
+    subst (λ log. MayLeaveNotes log new.told.notes) (sym logged) (each_notes_step old.log (cut len) old.told.notes new.told.notes left (cut_steps {T = T} (Err NoMemory) len old.told.notes new.told.notes by))
+
+pub left_by_look : (old new : Seen) → new.told ≡ old.told → new.log ≡ old.log → ReadsLeft old → ReadsLeft new
+left_by_look old new told same left = subst (λ log. MayLeaveNotes log new.told.notes) (sym same) (subst (λ (told : Told). MayLeaveNotes old.log told.notes) (sym told) left)
+
+pub left_by_sync : {T : Type 0} (result : Result T SiteErr) (old new : Seen) → LogsSync result (notes_synced old.told.notes) old.log new.log → new.told ≡ old.told → ReadsLeft old → ReadsLeft new
 left_by_sync (Ok value) old new logged same left = subst (MayLeaveNotes new.log) (sym (ap (λ (told : Told). told.notes) same)) (only_sync old.told.notes old.log new.log logged).left
 left_by_sync (Err e) old new logged same left = subst (MayLeaveNotes new.log) (sym (ap (λ (told : Told). told.notes) same)) (subst (λ log. MayLeaveNotes log old.told.notes) (sym logged) left)

@@ -3,7 +3,7 @@ use Rattle.std.specs.Prelude.{◌≡◌, ◌⊎◌, ℕ, List, [], ◌∷◌, �
 use Rattle.rc_volume.specs.declared.site.Part.TheVariants.{Record}
 use Rattle.rc_volume.specs.declared.site.SiteErr.{SiteErr}
 use Rattle.rc_volume.specs.declared.site.SiteErr.TheVariants as site_err
-use Rattle.rc_volume.specs.Faults.{Cause, on, quiet}
+use Rattle.rc_volume.specs.Faults.{Cause, never, on, quiet}
 use Rattle.rc_volume.specs.Images.{AreOnlyNotes}
 use Rattle.rc_volume.specs.Log.{Event, notes_synced}
 use Rattle.rc_record.specs.declared.err.RecordErr.{RecordErr}
@@ -35,6 +35,11 @@ IsOfBytes NoMemory = Unit {0}
 abbrev pub record_cause : {T : Type 0} → Result T RecordErr → Cause
 record_cause (Err RecordFault) = on Record 1
 record_cause other = quiet
+
+-- the same of a call that reads nothing of the record
+abbrev pub write_cause : {T : Type 0} → Result T RecordErr → Cause
+write_cause (Err (BadRecord place)) = never
+write_cause other = record_cause other
 
 -- a sync of what reads is in the log, and after an error at most that
 abbrev pub LogsSynced : {T : Type 0} → Result T SiteErr → List ℕ → List Event → List Event → Type 0

@@ -3,11 +3,10 @@
 ghost use Rattle.std.specs.Prelude.{◌≡◌, ◌≤◌, ◌<◌, ◌+◌, ◌∷◌, [], ◌++◌, true, length, take, drop, IfOk};
 ghost use Rattle.rc_volume.specs.declared.site.Part.TheVariants.{Record};
 ghost use Rattle.rc_volume.specs.Faults.{part_cause};
-ghost use Rattle.rc_volume.specs.Images.{MayLeaveNotes};
 ghost use Rattle.rc_volume.specs.Log.{cut, write};
 ghost use Rattle.rc_volume.specs.Site.{IsTornBytes};
 ghost use Rattle.rc_record.specs.Moments.{EachNow, EachSince, Grows};
-ghost use Rattle.rc_record.specs.Writing.{BeginsClosed, ChangesRecord, IsKept, LogsCall, LogsStep, StandsForNothing};
+ghost use Rattle.rc_record.specs.Writing.{BeginsClosed, ChangesRecord, IsKept, LogsCall, LogsStep, ReadsLeft, StandsForNothing};
 
 use rc_volume::{Site, SiteErr};
 use std::alloc::Global;
@@ -33,9 +32,7 @@ pub(crate) fn write_durably<S: Site>(
         ++ drop (off + length bytes.now) (S.view site.old).told.notes) }
     ensures torn { S.tells ≡ true → IsTornBytes off (length bytes.now)
         (S.view site.old).told.notes (S.view site.new).told.notes }
-    ensures left { S.tells ≡ true →
-        MayLeaveNotes (S.view site.old).log (S.view site.old).told.notes →
-        MayLeaveNotes (S.view site.new).log (S.view site.new).told.notes }
+    ensures left { S.tells ≡ true → ReadsLeft (S.view site.old) → ReadsLeft (S.view site.new) }
 {
     match site.record_write(alloc, off, bytes) {
         Ok(()) => site.record_sync(alloc),
@@ -52,6 +49,7 @@ pub(crate) fn cut_durably<S: Site>(alloc: Global, site: &mut S, len: u64) -> Res
         (S.view site.new).told.notes (S.view site.old).log (S.view site.new).log }
     ensures notes { S.tells ≡ true → IfOk result (λ _. (S.view site.new).told.notes ≡
         take len (S.view site.old).told.notes) }
+    ensures left { S.tells ≡ true → ReadsLeft (S.view site.old) → ReadsLeft (S.view site.new) }
 {
     match site.record_cut(alloc, len) {
         Ok(()) => site.record_sync(alloc),
@@ -67,6 +65,7 @@ fn cut_to_one<S: Site>(alloc: Global, site: &mut S) -> Result<(), SiteErr>
         (S.view site.old).log (S.view site.new).log }
     ensures short { S.tells ≡ true → IfOk result
         (λ _. length (S.view site.new).told.notes ≤ 1) }
+    ensures left { S.tells ≡ true → ReadsLeft (S.view site.old) → ReadsLeft (S.view site.new) }
 {
     match site.record_len(alloc) {
         Ok(len) if len > 1 => site.record_cut(alloc, 1),
@@ -83,6 +82,7 @@ pub(crate) fn close<S: Site>(alloc: Global, site: &mut S) -> Result<(), SiteErr>
     ensures images { S.tells ≡ true → EachNow (S.view site.old).log StandsForNothing →
         EachSince (S.view site.new).log (length (S.view site.old).log) StandsForNothing }
     ensures closed { S.tells ≡ true → IfOk result (λ _. IsKept (0 ∷ []) (S.view site.new)) }
+    ensures left { S.tells ≡ true → ReadsLeft (S.view site.old) → ReadsLeft (S.view site.new) }
 {
     match cut_to_one(alloc, site) {
         Ok(()) => {}
@@ -109,6 +109,7 @@ pub(crate) fn write_behind<S: Site>(
         EachSince (S.view site.new).log (length (S.view site.old).log) StandsForNothing }
     ensures written { S.tells ≡ true → IfOk result
         (λ _. IsKept (0 ∷ bytes.now) (S.view site.new)) }
+    ensures left { S.tells ≡ true → ReadsLeft (S.view site.new) }
 {
     match write_pieces(alloc, site, bytes) {
         Ok(()) => site.record_sync(alloc),
@@ -125,6 +126,7 @@ fn write_pieces<S: Site>(alloc: Global, site: &mut S, bytes: &[u8]) -> Result<()
         EachSince (S.view site.new).log (length (S.view site.old).log) BeginsClosed }
     ensures written { S.tells ≡ true → IfOk result
         (λ _. (S.view site.new).told.notes ≡ 0 ∷ bytes.now) }
+    ensures left { S.tells ≡ true → ReadsLeft (S.view site.new) }
 {
     let mut done = 0;
     'pieces: while done < bytes.len() {

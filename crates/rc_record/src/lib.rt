@@ -8,7 +8,8 @@
 //! `specs/Spelling.antt`, and what is spelled so stands for that plan and its marks.
 //!
 //! [`begin`], [`open_gate`], [`mark`] and [`clear`] write it, each step durable before the next one, so that whatever a stop
-//! leaves stands for nothing, or for what a rerun can go on from (`specs/Writing.antt`).
+//! leaves stands for nothing, or for what a rerun can go on from (`specs/Writing.antt`): in the record of a plan that `load`
+//! answers the plan can be marked.
 //!
 //! Reading and beginning cost the bytes of the record, which are held whole meanwhile; a mark costs a walk over the
 //! plan's items.

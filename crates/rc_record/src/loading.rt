@@ -1,11 +1,13 @@
 //! Reading the record of a site.
 
-ghost use Rattle.std.specs.Prelude.{◌≡◌, ◌+◌, ◌≤◌, ◌∷◌, [], ◌++◌, true, length, IfOk, OnOk};
+ghost use Rattle.std.specs.Prelude.{◌≡◌, ◌+◌, ◌≤◌, ◌∷◌, [], ◌++◌, true, length, IfOk, IfSome, OnOk};
 ghost use Rattle.rc_volume.specs.declared.site.Part.TheVariants.{Record};
 ghost use Rattle.rc_volume.specs.Faults.{part_cause};
 ghost use Rattle.rc_volume.specs.Frames.{Syncs};
 ghost use Rattle.rc_record.specs.Answers.{Gives, IsDecided, LogsLoad, LogsSynced, fault_of, record_cause};
 ghost use Rattle.rc_record.specs.Grammar.{stands};
+ghost use Rattle.rc_record.specs.Spelling.{IsAllowed};
+ghost use Rattle.rc_record.specs.Writing.{IsOpened};
 
 use crate::err::RecordErr;
 use crate::noted::read;
@@ -27,6 +29,9 @@ pub fn load<S: Site>(alloc: Global, site: &mut S) -> Result<Option<Noted>, Recor
         (S.view site.old).log (S.view site.new).log }
     ensures decided { S.tells ≡ true → IsDecided result
         (S.view site.new).log (S.view site.new).told.notes }
+    ensures allowed { IfOk result (λ noted. IfSome noted (λ noted. IsAllowed noted.plan)) }
+    ensures opened { S.tells ≡ true → IfOk result (λ noted. IfSome noted
+        (λ noted. IsOpened noted.plan (S.view site.new))) }
 {
     match durable_bytes(alloc, site) {
         Ok(bytes) => read(alloc, &bytes),

@@ -1,9 +1,10 @@
 //! All that a record stands for: its plan, the marks behind it, and that nothing comes behind those.
 
-ghost use Rattle.std.specs.Prelude.{◌≡◌, ◌≤◌, ◌<◌, ◌+◌, ◌==◌, length, filter, map, IfErr, IfOk};
+ghost use Rattle.std.specs.Prelude.{◌≡◌, ◌≤◌, ◌<◌, ◌+◌, ◌==◌, length, filter, map, IfErr, IfOk, IfSome};
 ghost use Rattle.rc_class.specs.Units.{is_copy};
 ghost use Rattle.rc_record.specs.Answers.{Gives, IsOfBytes};
 ghost use Rattle.rc_record.specs.Grammar.{is_open, last_at, marks_at, noted_at, stands, stands_at};
+ghost use Rattle.rc_record.specs.Writing.{IsRecordOf};
 
 use crate::err::RecordErr;
 use crate::fields::{byte_at, field_at};
@@ -20,6 +21,8 @@ const OPEN: u8 = 0xA5;
 pub(crate) fn read(alloc: Global, bytes: &[u8]) -> Result<Option<Noted>, RecordErr>
     ensures exact { Gives (λ noted. noted) result (stands bytes.now) }
     ensures causes { IfErr result IsOfBytes }
+    ensures record_of { IfOk result
+        (λ noted. IfSome noted (λ noted. IsRecordOf noted.plan bytes.now)) }
 {
     if !is_open(bytes) {
         return Ok(None);

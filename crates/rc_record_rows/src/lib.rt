@@ -4,3 +4,5 @@
 
 #[cfg(test)]
 mod loads;
+#[cfg(test)]
+mod writes;

@@ -3,7 +3,7 @@ use Rattle.rc_volume.specs.Log.{cut, write}
 use Rattle.rc_volume.specs.Site.{Told}
 use Rattle.rc_record.specs.Writing.{StandsForNothing}
 use Rattle.rc_record.proofs.Closed.{closed_cut, closed_write, short, written_nothing, written_one}
-use Rattle.rc_record.proofs.Since.{grows_call, grows_len, grows_on, grows_sync, kept_step, only_sync, since_call, then_step, then_sync}
+use Rattle.rc_record.proofs.Since.{grows_call, grows_len, grows_on, grows_sync, kept_step, left_by_sync, only_sync, since_call, then_step, then_sync}
 use Rattle.rc_record.proofs.durable.close.Goals as goal
 
 pub returns-in-Err-clause-images : goal.returns-in-Err-clause-images
@@ -45,3 +45,12 @@ returns-clause-closed g c = λ tells.
     let same : synced.told.notes ≡ mid.told.notes = ap (λ (told : Told). told.notes) (c.record_sync.ensures.frame.told tells) in
     kept_step c.write_durably.result (write 0 1) (0 ∷ []) synced new (c.write_durably.ensures.log tells)
     (written_one c.write_durably.result synced.told.notes new.told.notes (subst (λ n. length n ≤ 1) (sym same) (c.in-Ok.ensures.short tells)) (c.write_durably.ensures.notes tells))
+
+pub returns-in-Err-record_sync-clause-left : goal.returns-in-Err-record_sync-clause-left
+returns-in-Err-record_sync-clause-left g c = λ tells left.
+    left_by_sync c.record_sync.result (g.S.Site.view c.cut_to_one.new.site) (g.S.Site.view c.record_sync.new.self) (c.record_sync.ensures.log tells) (c.record_sync.ensures.frame.told tells) (c.cut_to_one.ensures.left tells left)
+
+pub returns-clause-left : goal.returns-clause-left
+returns-clause-left g c = λ tells left.
+    c.write_durably.ensures.left tells
+    (left_by_sync c.record_sync.result (g.S.Site.view c.cut_to_one.new.site) (g.S.Site.view c.record_sync.new.self) (c.record_sync.ensures.log tells) (c.record_sync.ensures.frame.told tells) (c.cut_to_one.ensures.left tells left))

@@ -1,6 +1,7 @@
 use Rattle.std.proofs.Common.{◌+◌, ◌≤◌, rules, length, take, drop, ap, arith}
+use Rattle.std.proofs.lemmas.List.{length-take}
 use Rattle.rc_record.proofs.Closed.{piece_images, piece_put}
-use Rattle.rc_record.proofs.Since.{call_logged, grows_call, grows_len, grows_on}
+use Rattle.rc_record.proofs.Since.{call_logged, grows_call, grows_len, grows_on, left_by_write}
 use Rattle.rc_record.proofs.durable.write_pieces.Goals as goal
 
 pub returns-in-Err-clause-images : goal.returns-in-Err-clause-images
@@ -22,4 +23,10 @@ pieces-preserved g c =
       frame = search rules;
       log = λ tells. grows_on old mid.log new.log (c.pieces.invariant.log tells) (grows_call _ mid.log new.log (call_logged c.record_write.result _ mid.log new.log (c.record_write.ensures.log tells)));
       images = λ tells. piece_images c.record_write.result (1 + c.pieces.done) _ mid.log new.log (length old) (omega arith) (grows_len old mid.log (c.pieces.invariant.log tells)) (c.pieces.invariant.images tells) (c.record_write.ensures.log tells);
+      left = λ tells. left_by_write c.record_write.result (1 + c.pieces.done) _ mid new (omega (arith, ap length (c.pieces.invariant.told tells), length-take c.pieces.done c.args.bytes.now, c.pieces.invariant.within)) (c.record_write.ensures.frame.here tells) (c.record_write.ensures.log tells) (c.pieces.invariant.left tells);
     }
+
+pub returns-in-Err-clause-left : goal.returns-in-Err-clause-left
+returns-in-Err-clause-left g c = λ tells.
+    left_by_write c.record_write.result (1 + c.pieces.done) _ (g.S.Site.view c.pieces.site) (g.S.Site.view c.record_write.new.self) (omega (arith, ap length (c.pieces.invariant.told tells), length-take c.pieces.done c.args.bytes.now, c.pieces.invariant.within))
+    (c.record_write.ensures.frame.here tells) (c.record_write.ensures.log tells) (c.pieces.invariant.left tells)
