@@ -37,6 +37,12 @@ numbered_map f row k [] n same = refl
 numbered_map f row k (x ∷ xs) zero same = ap Some (same x k)
 numbered_map f row k (x ∷ xs) (suc n) same = numbered_map f row (k + 1) xs n same
 
+-- what each row keeps
+pub numbered_keeps : {A B : Type 0} (f : A → B) (row : A → ℕ → A) (k : ℕ) (xs : List A) (n : ℕ) → ((x : A) (i : ℕ) → f (row x i) ≡ f x) → option_map f (slice_get (numbered row k xs) n) ≡ option_map f (slice_get xs n)
+numbered_keeps f row k [] n same = refl
+numbered_keeps f row k (x ∷ xs) zero same = ap Some (same x k)
+numbered_keeps f row k (x ∷ xs) (suc n) same = numbered_keeps f row (k + 1) xs n same
+
 numbered_at : {A B : Type 0} (row : A → ℕ → B) (k : ℕ) (xs : List A) (n : ℕ) (y : B) → slice_get (numbered row k xs) n ≡ Some y → (x : A) × (slice_get xs n ≡ Some x) × (row x (k + n) ≡ y)
 numbered_at row k [] n y e = absurd (some_none y e)
 numbered_at row k (x ∷ xs) zero y e = let first : k + 0 ≡ k = omega arith in (x, refl, ap (row x) first ∙ same_some (row x k) y e)
@@ -45,7 +51,7 @@ numbered_at row k (x ∷ xs) (suc n) y e =
     let on : k + suc n ≡ (k + 1) + n = omega arith in
     (later.0, later.1, ap (row later.0) on ∙ later.2)
 
-first_at : {A B : Type 0} (row : A → ℕ → B) (xs : List A) (n : ℕ) (y : B) → slice_get (numbered row 0 xs) n ≡ Some y → (x : A) × (slice_get xs n ≡ Some x) × (row x n ≡ y)
+pub first_at : {A B : Type 0} (row : A → ℕ → B) (xs : List A) (n : ℕ) (y : B) → slice_get (numbered row 0 xs) n ≡ Some y → (x : A) × (slice_get xs n ≡ Some x) × (row x n ≡ y)
 first_at row xs n y e =
     let found = numbered_at row 0 xs n y e in
     let same : n ≡ 0 + n = omega arith in
@@ -125,27 +131,27 @@ stands : (mark : Option Bool) → has (λ stands. stands) mark ≡ true → mark
 stands None e = absurd (true≢false (sym e))
 stands (Some b) e = ap Some e
 
-done_is_marked : (copied : Copied) (mark : Option Bool) → is_done (opened_file copied mark).state ≡ true → mark ≡ Some true
+pub done_is_marked : (copied : Copied) (mark : Option Bool) → is_done (opened_file copied mark).state ≡ true → mark ≡ Some true
 done_is_marked copied mark e = by (has (λ stands. stands) mark) refl e
   where
     by : (b : Bool) → has (λ stands. stands) mark ≡ b → is_done (cond b file.Finished file.Open) ≡ true → mark ≡ Some true
     by true so done = stands mark so
     by false so done = absurd (true≢false (sym done))
 
-marked_is_finished : (copied : Copied) (mark : Option Bool) → mark ≡ Some true → is_finished (opened_file copied mark).state ≡ true
+pub marked_is_finished : (copied : Copied) (mark : Option Bool) → mark ≡ Some true → is_finished (opened_file copied mark).state ≡ true
 marked_is_finished copied mark e = ap (λ m. is_finished (opened_file copied m).state) e
 
-settled_is_marked : (extent : Extent) (mark : Option Bool) → is_settled (opened_unit extent mark).state ≡ true → mark ≡ Some true
+pub settled_is_marked : (extent : Extent) (mark : Option Bool) → is_settled (opened_unit extent mark).state ≡ true → mark ≡ Some true
 settled_is_marked extent mark e = by (has (λ stands. stands) mark) refl e
   where
     by : (b : Bool) → has (λ stands. stands) mark ≡ b → is_settled (cond b unit.Marked unit.Free) ≡ true → mark ≡ Some true
     by true so done = stands mark so
     by false so done = absurd (true≢false (sym done))
 
-marked_is_marked : (extent : Extent) (mark : Option Bool) → mark ≡ Some true → is_marked (opened_unit extent mark).state ≡ true
+pub marked_is_marked : (extent : Extent) (mark : Option Bool) → mark ≡ Some true → is_marked (opened_unit extent mark).state ≡ true
 marked_is_marked extent mark e = ap (λ m. is_marked (opened_unit extent m).state) e
 
-none_held : (extent : Extent) (mark : Option Bool) → holding_of (opened_unit extent mark).state ≡ None
+pub none_held : (extent : Extent) (mark : Option Bool) → holding_of (opened_unit extent mark).state ≡ None
 none_held extent mark = by (has (λ stands. stands) mark)
   where
     by : (b : Bool) → holding_of (cond b unit.Marked unit.Free) ≡ None

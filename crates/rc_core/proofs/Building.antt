@@ -8,7 +8,7 @@ use Rattle.rc_class.specs.declared.noted.Noted.{Noted}
 use Rattle.rc_class.specs.declared.plan.Plan.{Plan}
 use Rattle.rc_class.specs.declared.rules.Rules.{Rules}
 use Rattle.rc_class.specs.Units.{Range, is_copy, item_units, range_at, range_count, ranges_of, unit_of}
-use Rattle.rc_core.specs.Opened.{copied_from, copied_of, extent_of, extents_from, files_of, numbered, opened, opened_file, opened_files, opened_item, opened_unit, opened_units}
+use Rattle.rc_core.specs.Opened.{copied_from, copied_of, extent_of, extents_from, files_of, numbered, opened, opened_file, opened_files, opened_item, opened_units}
 use Rattle.rc_core.specs.declared.node.Node.{Node}
 use Rattle.rc_core.specs.declared.rows.Copied.{Copied}
 use Rattle.rc_core.specs.declared.rows.Extent.{Extent}
@@ -94,18 +94,17 @@ file_more marks source target items place item rows new below is so_far more =
         ∙ sym (numbered_push (λ (file : Copied) (n : ℕ). opened_file file (slice_get marks n)) 0 (copied_from source target 0 (take place items)) (copied_of source target item place))
     by false = append_nothing (opened_files marks (copied_from source target 0 (take place items))) ∙ ap (opened_files marks) (sym (append_nothing (copied_from source target 0 (take place items))))
 
--- one unit more
-pub unit_more : (marks : List Bool) (extents : List Extent) (n : ℕ) (d : Extent) (rows new : List UnitRow) → n < length extents → rows ≡ opened_units marks (take n extents) → new ≡ rows ++ opened_unit (get_or extents n d) (slice_get marks n) ∷ [] → new ≡ opened_units marks (take (n + 1) extents)
-unit_more marks extents n d rows new below so_far more =
-    let extent = get_or extents n d in
-    let row = λ (extent : Extent) (n : ℕ). opened_unit extent (slice_get marks n) in
-    let at : 0 + length (take n extents) ≡ n = omega (arith, length-take n extents) in
-    let one_more : take (n + 1) extents ≡ take n extents ++ extent ∷ [] = take_more extents n d below in
+-- one row more
+pub numbered_more : {A B : Type 0} (row : A → ℕ → B) (xs : List A) (n : ℕ) (d : A) (done new : List B) → n < length xs → done ≡ numbered row 0 (take n xs) → new ≡ done ++ row (get_or xs n d) n ∷ [] → new ≡ numbered row 0 (take (n + 1) xs)
+numbered_more {A} {B} row xs n d done new below so_far more =
+    let x = get_or xs n d in
+    let at : 0 + length (take n xs) ≡ n = omega (arith, length-take n xs) in
+    let one_more : take (n + 1) xs ≡ take n xs ++ x ∷ [] = take_more xs n d below in
     more
-    ∙ ap (λ (done : List UnitRow). done ++ opened_unit extent (slice_get marks n) ∷ []) so_far
-    ∙ ap (λ k. opened_units marks (take n extents) ++ opened_unit extent (slice_get marks k) ∷ []) (sym at)
-    ∙ sym (numbered_push row 0 (take n extents) extent)
-    ∙ ap (opened_units marks) (sym one_more)
+    ∙ ap (λ (done : List B). done ++ row x n ∷ []) so_far
+    ∙ ap (λ k. numbered row 0 (take n xs) ++ row x k ∷ []) (sym at)
+    ∙ sym (numbered_push row 0 (take n xs) x)
+    ∙ ap (numbered row 0) (sym one_more)
 
 -- the units of one file more
 pub extents_more : (plan : Plan) (files : List FileRow) (n : ℕ) (row : FileRow) (extents new : List Extent) → n < length files → row ≡ get_or files n row → extents ≡ extents_from plan 0 (map (λ (row : FileRow). row.file) (take n files)) → new ≡ extents ++ map (extent_of n) (item_units plan.stride plan.with_bytes row.file.item) → new ≡ extents_from plan 0 (map (λ (row : FileRow). row.file) (take (n + 1) files))
@@ -159,8 +158,8 @@ ranges_none plan n item old none =
     append_none (x ∷ xs) = ap (λ rest. x ∷ rest) (append_none xs)
 
 -- the units of the opened files
-pub opened_is : (noted : Noted) (rules : Rules) (source target : List Node) (retries : ℕ) (files : List FileRow) (units : List UnitRow) → files ≡ opened_files noted.finished (files_of noted.plan source target) → units ≡ opened_units noted.units (extents_from noted.plan 0 (map (λ (row : FileRow). row.file) files)) → record { noted = noted; rules = rules; source = source; target = target; retries = retries; files = files; units = units; next = 1 } ≡ opened noted rules source target retries
+pub opened_is : (noted : Noted) (rules : Rules) (source target : List Node) (retries : ℕ) (files : List FileRow) (units : List UnitRow) → files ≡ opened_files noted.finished (files_of noted.plan source target) → units ≡ opened_units noted.units (extents_from noted.plan 0 (map (λ (row : FileRow). row.file) files)) → record { noted = noted; rules = rules; source = source; target = target; retries = retries; files = files; units = units; next = 1; stopped = false } ≡ opened noted rules source target retries
 opened_is noted rules source target retries files units files_is units_is =
     let same : map (λ (row : FileRow). row.file) files ≡ files_of noted.plan source target = ap (map (λ (row : FileRow). row.file)) files_is ∙ files_of_rows noted.finished 0 (files_of noted.plan source target) in
     let extents = units_is ∙ ap (λ (files : List Copied). opened_units noted.units (extents_from noted.plan 0 files)) same in
-    λ i. record { noted = noted; rules = rules; source = source; target = target; retries = retries; files = files_is i; units = extents i; next = 1 }
+    λ i. record { noted = noted; rules = rules; source = source; target = target; retries = retries; files = files_is i; units = extents i; next = 1; stopped = false }

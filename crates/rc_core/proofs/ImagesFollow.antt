@@ -116,7 +116,7 @@ away extent range i low high (inl before) from_here to = omega (arith, before, f
 away extent range i low high (inr behind) from_here to = omega (arith, behind, from_here, to, low, high)
 
 -- where all has the bytes of a range and none were put on it, the image has them
-left_holds : (extent : Extent) (source : Option rc.Node) (had : List (Option rc.Node)) (puts : List (ℕ × ℕ)) (image : Option rc.Node) → All (Holds (range_of extent) source) had → All (IsApart extent) puts → MayBeLeft had puts image → Holds (range_of extent) source image
+pub left_holds : (extent : Extent) (source : Option rc.Node) (had : List (Option rc.Node)) (puts : List (ℕ × ℕ)) (image : Option rc.Node) → All (Holds (range_of extent) source) had → All (IsApart extent) puts → MayBeLeft had puts image → Holds (range_of extent) source image
 left_holds extent source had puts None all apart may = contained (Holds (range_of extent) source) had None all may
 left_holds extent None had puts (Some image) all apart may = absurd (contained (Holds (range_of extent) None) had (Some may.spelling.0) all may.spelling.1)
 left_holds extent (Some from) had puts (Some image) all apart may =
@@ -138,7 +138,7 @@ left_holds extent (Some from) had puts (Some image) all apart may =
         absurd (omega (arith, below, shorter.2, (of shorter.0 shorter.1).size, may.no_longer.2, (of may.no_longer.0 may.no_longer.1).size))
 
 -- where all is the end, so is the image
-left_end : (goal : Option rc.Node) (had : List (Option rc.Node)) (puts : List (ℕ × ℕ)) (image : Option rc.Node) → All (λ now. now ≡ goal) had → puts ≡ [] → MayBeLeft had puts image → image ≡ goal
+pub left_end : (goal : Option rc.Node) (had : List (Option rc.Node)) (puts : List (ℕ × ℕ)) (image : Option rc.Node) → All (λ now. now ≡ goal) had → puts ≡ [] → MayBeLeft had puts image → image ≡ goal
 left_end goal had puts None all unput may = contained (λ now. now ≡ goal) had None all may
 left_end None had puts (Some image) all unput may = absurd (some_none may.spelling.0 (sym (contained (λ now. now ≡ None) had (Some may.spelling.0) all may.spelling.1)))
 left_end (Some end) had puts (Some image) all unput may =
@@ -194,6 +194,40 @@ count_units plan source target place n (item ∷ items) = by (λ n. count_units 
     by later false so =
         later n ∙ sym (ap (λ (units : List Unit). length (units ++ flat_map (item_units plan.stride plan.with_bytes) items)) (no_units plan.stride plan.with_bytes item so))
 
+-- Copied items
+
+pub is_copied : (does : Act) → is_copy does ≡ true → does ≡ act.Copy
+is_copied act.Copy e = refl
+is_copied act.Make e = absurd (true≢false (sym e))
+is_copied act.Touch e = absurd (true≢false (sym e))
+is_copied act.Fix e = absurd (true≢false (sym e))
+is_copied act.Purge e = absurd (true≢false (sym e))
+is_copied act.Extra e = absurd (true≢false (sym e))
+is_copied act.Mismatch e = absurd (true≢false (sym e))
+is_copied (act.Keep reason) e = absurd (true≢false (sym e))
+
+passes : (items : List Item) (n : ℕ) (item : Item) → slice_get (filter (λ (item : Item). is_copy item.act) items) n ≡ Some item → is_copy item.act ≡ true
+passes items n item e = filtered (λ (item : Item). is_copy item.act) items n item e
+
+pub copied_act : (items : List Item) (n : ℕ) (item : Item) → slice_get (filter (λ (item : Item). is_copy item.act) items) n ≡ Some item → item.act ≡ act.Copy
+copied_act items n item e = is_copied item.act (passes items n item e)
+
+-- Marks
+
+pub kept_mark : (stands allowed : Bool) (mark : Option Bool) → stands ≡ true → IsMarkOf stands allowed mark → mark ≡ Some true
+kept_mark stands allowed None so is = absurd is
+kept_mark stands allowed (Some b) so is = ap Some (is.0 so)
+
+pub allowed_mark : (stands allowed : Bool) (mark : Option Bool) → mark ≡ Some true → IsMarkOf stands allowed mark → allowed ≡ true
+allowed_mark stands allowed None so is = absurd is
+allowed_mark stands allowed (Some b) so is = is.1 (same_some b true so)
+
+pub settled_from : (s : UnitState) → may_be_marked s ≡ true → is_settled s ≡ true
+settled_from unit.Free e = absurd (true≢false (sym e))
+settled_from (unit.Held holding) e = absurd (true≢false (sym e))
+settled_from unit.Doubtful e = refl
+settled_from unit.Marked e = refl
+
 -- The rows of a sound state, by the plan
 
 module _ (state : State) (sound : Sound state) where
@@ -238,20 +272,6 @@ module _ (state : State) (sound : Sound state) where
 
     -- marks
 
-    kept_mark : (stands allowed : Bool) (mark : Option Bool) → stands ≡ true → IsMarkOf stands allowed mark → mark ≡ Some true
-    kept_mark stands allowed None so is = absurd is
-    kept_mark stands allowed (Some b) so is = ap Some (is.0 so)
-
-    allowed_mark : (stands allowed : Bool) (mark : Option Bool) → mark ≡ Some true → IsMarkOf stands allowed mark → allowed ≡ true
-    allowed_mark stands allowed None so is = absurd is
-    allowed_mark stands allowed (Some b) so is = is.1 (same_some b true so)
-
-    settled_from : (s : UnitState) → may_be_marked s ≡ true → is_settled s ≡ true
-    settled_from unit.Free e = absurd (true≢false (sym e))
-    settled_from (unit.Held holding) e = absurd (true≢false (sym e))
-    settled_from unit.Doubtful e = refl
-    settled_from unit.Marked e = refl
-
     units_kept : AreKept state.noted.units units
     units_kept n mark =
         let row = row_of_unit n (omega (arith, slice_get_within state.noted.units n true mark, sound.laid_out.is_open.noted.units)) in
@@ -271,7 +291,7 @@ module _ (state : State) (sound : Sound state) where
 
     -- keys
 
-    way_at : (n : ℕ) (row : FileRow) → file_row state n ≡ Some row → IsOnWay state.rules state.noted.plan row.file.item row.file.source row.file.start (node_at image (key_of row.file.item.path))
+    pub way_at : (n : ℕ) (row : FileRow) → file_row state n ≡ Some row → IsOnWay state.rules state.noted.plan row.file.item row.file.source row.file.start (node_at image (key_of row.file.item.path))
     way_at n row is =
         let good = sound.files n row is in
         left_way state.rules state.noted.plan row.file.item row.file.source row.file.start (all_had row) row.touched.puts (node_at image (key_of row.file.item.path)) good.ways good.bytes_stay (may.files n row is)
@@ -301,22 +321,6 @@ module _ (state : State) (sound : Sound state) where
         no_copy (subst (λ (k : List (List ℕ)). Acts act.Copy (item_at state.noted.plan.items k)) same
         (subst (λ (o : Option Item). Acts act.Copy o) (sym found) (copied_act state.noted.plan.items n row.file.item file.item_is))))
         ∙ sym (node_in state.target key)
-      where
-        is_copied : (does : Act) → is_copy does ≡ true → does ≡ act.Copy
-        is_copied act.Copy e = refl
-        is_copied act.Make e = absurd (true≢false (sym e))
-        is_copied act.Touch e = absurd (true≢false (sym e))
-        is_copied act.Fix e = absurd (true≢false (sym e))
-        is_copied act.Purge e = absurd (true≢false (sym e))
-        is_copied act.Extra e = absurd (true≢false (sym e))
-        is_copied act.Mismatch e = absurd (true≢false (sym e))
-        is_copied (act.Keep reason) e = absurd (true≢false (sym e))
-
-        passes : (items : List Item) (n : ℕ) (item : Item) → slice_get (filter (λ (item : Item). is_copy item.act) items) n ≡ Some item → is_copy item.act ≡ true
-        passes items n item e = filtered (λ (item : Item). is_copy item.act) items n item e
-
-        copied_act : (items : List Item) (n : ℕ) (item : Item) → slice_get (filter (λ (item : Item). is_copy item.act) items) n ≡ Some item → item.act ≡ act.Copy
-        copied_act items n item e = is_copied item.act (passes items n item e)
 
     -- the marks hold
 

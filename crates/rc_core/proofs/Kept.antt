@@ -112,7 +112,7 @@ unit_kept state sound n row new next is same marks unit later tickets = record {
 
 -- A sync
 
-map_map : {A B : Type 0} (f : A → B) (g : A → A) (o : Option A) → ((x : A) → f (g x) ≡ f x) → option_map f (option_map g o) ≡ option_map f o
+pub map_map : {A B : Type 0} (f : A → B) (g : A → A) (o : Option A) → ((x : A) → f (g x) ≡ f x) → option_map f (option_map g o) ≡ option_map f o
 map_map f g None same = refl
 map_map f g (Some x) same = ap Some (same x)
 
@@ -188,7 +188,7 @@ spared_unit had puts now state attempts row file spared good = record {
   });
 }
 
-finished_is_done : (s : FileState) → is_finished s ≡ true → is_done s ≡ false → ⊥
+pub finished_is_done : (s : FileState) → is_finished s ≡ true → is_done s ≡ false → ⊥
 finished_is_done file.Open t f = true≢false (sym t)
 finished_is_done file.Doubtful t f = true≢false (sym t)
 finished_is_done file.Finished t f = true≢false f

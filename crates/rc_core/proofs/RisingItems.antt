@@ -13,12 +13,12 @@ use Rattle.rc_class.specs.Units.{is_copy}
 use Rattle.rc_core.proofs.Found.{both_true}
 use Rattle.rc_core.proofs.Lists.{same_some, some_none}
 
-less : (r : Ordering) → is_lt r ≡ true → r ≡ Less
+pub less : (r : Ordering) → is_lt r ≡ true → r ≡ Less
 less Less e = refl
 less Equal e = absurd (true≢false (sym e))
 less Greater e = absurd (true≢false (sym e))
 
-abbrev copied : List Item → List Item
+abbrev pub copied : List Item → List Item
 copied items = filter (λ (item : Item). is_copy item.act) items
 
 -- each lies above what all lie above

@@ -56,7 +56,7 @@ bit x y e = (booleans_Decides x y).0 e
 itself : (x : Bool) → beq x x ≡ true
 itself x = (booleans_Decides x x).1 refl
 
-and_also : (x y : Bool) → x ≡ true → y ≡ true → x && y ≡ true
+pub and_also : (x y : Bool) → x ≡ true → y ≡ true → x && y ≡ true
 and_also x y p q = ap (λ b. b && y) p ∙ q
 
 abbrev same_bits : Attr → Attr → Bool

@@ -1,13 +1,15 @@
 -- What each event asks of a state, and what it does to it.
-use Rattle.std.specs.Prelude.{◌≡◌, ◌⊎◌, ℕ, ◌+◌, ◌<◌, Bool, true, false, not, ◌&&◌, ◌==◌, nat_lt, nat_le, List, [], ◌∷◌, Option, None, Some, IfSome, IsSomeAnd, option_map, length, min, Result, Ok, Err, if◌then◌else◌}
+use Rattle.std.specs.Prelude.{◌≡◌, ◌⊎◌, ℕ, ◌+◌, ◌<◌, Bool, true, false, not, ◌&&◌, ◌==◌, nat_lt, nat_le, List, [], ◌∷◌, Option, None, Some, IfSome, IsSomeAnd, option_map, length, map, min, slice_get, Result, Ok, Err, if◌then◌else◌}
 use Rattle.std.specs.List.{position}
 use Rattle.std.specs.Str.{bytes_eq}
 use Rattle.rc_tree.specs.Path.{key_of}
 use Rattle.rc_tree.specs.Tree as rc
 use Rattle.rc_volume.specs.Reading.{part_of}
 use Rattle.rc_volume.specs.Site.{IsHalfResized, IsTorn, resized, written_at}
-use Rattle.rc_core.specs.Nodes.{node_of}
-use Rattle.rc_core.specs.Rows.{all_marked, all_synced, begun, end_of, end_size, file_number, file_row, has, holding_of, in_state, is_free, is_given_up, is_open, prepared, touch, unit_row, with_file, with_unit}
+use Rattle.rc_core.specs.Images.{MayStop}
+use Rattle.rc_core.specs.Nodes.{node_at, node_of}
+use Rattle.rc_core.specs.Opened.{numbered}
+use Rattle.rc_core.specs.Rows.{all_marked, all_synced, begun, end_of, end_size, file_by, file_number, file_row, has, holding_of, in_state, is_finished, is_free, is_given_up, is_marked, is_open, prepared, stands_in, synced, touch, unit_by, unit_row, with_file, with_unit}
 use Rattle.rc_core.specs.declared.event.CoreErr.{CoreErr}
 use Rattle.rc_core.specs.declared.event.CoreErr.TheVariants as core_err
 use Rattle.rc_core.specs.declared.event.Event.{Event}
@@ -25,13 +27,15 @@ use Rattle.rc_core.specs.declared.rows.UnitState.{UnitState}
 use Rattle.rc_core.specs.declared.rows.UnitState.TheVariants as unit
 use Rattle.rc_core.specs.declared.state.State.{State}
 
--- 5 is kept for the finish of a file
 abbrev pub number_of : Event → ℕ
 number_of (event.Claim unit) = 1
 number_of (event.Put unit ticket bytes) = 2
 number_of (event.Settle unit ticket) = 3
 number_of (event.Mark unit ticket stood) = 4
+number_of (event.Finish item stood) = 5
 number_of (event.Fail what ticket booked left) = 6
+number_of (event.Stop image units finished) = 7
+number_of event.Rerun = 8
 
 -- Looking up
 
@@ -130,13 +134,21 @@ MayFail state (what.Unit n) ticket left =
 MayFail state (what.Finish place) ticket left =
     (ticket ≡ 0) × IsSomeAnd (closing state place) (λ found. IsAtKey found.row left × IsLeftOfFinish state.noted.plan.with_bytes (end_of state found.row) found.row (option_map node_of left))
 
--- What an event asks of a state
+-- What an event asks of a state that is not stopped
+abbrev pub Asks : State → Event → Type 0
+Asks state (event.Claim n) = MayClaim state n
+Asks state (event.Put n ticket bytes) = IsSomeAnd (held_under state n ticket) (λ found. is_piece bytes found ≡ true)
+Asks state (event.Settle n ticket) = IsSomeAnd (held_under state n ticket) (λ found. is_whole found ≡ true)
+Asks state (event.Mark n ticket stood) = IsSomeAnd (held_under state n ticket) (λ found. found.holding.settled ≡ true)
+Asks state (event.Finish item stood) = IsSomeAnd (closing state item) (λ found. Unit {0})
+Asks state (event.Fail what ticket booked left) = MayFail state what ticket left
+Asks state (event.Stop image units finished) = MayStop state image units finished
+Asks state event.Rerun = ⊥
+
+-- a stopped state allows a rerun alone
 abbrev pub Allows : State → Event → Type 0
-Allows state (event.Claim n) = MayClaim state n
-Allows state (event.Put n ticket bytes) = IsSomeAnd (held_under state n ticket) (λ found. is_piece bytes found ≡ true)
-Allows state (event.Settle n ticket) = IsSomeAnd (held_under state n ticket) (λ found. is_whole found ≡ true)
-Allows state (event.Mark n ticket stood) = IsSomeAnd (held_under state n ticket) (λ found. found.holding.settled ≡ true)
-Allows state (event.Fail what ticket booked left) = MayFail state what ticket left
+Allows state event.Rerun = state.stopped ≡ true
+Allows state other = (state.stopped ≡ false) × Asks state other
 
 -- Effects
 
@@ -218,20 +230,75 @@ fail state (what.Finish place) ticket booked left =
     (λ found. with_file found.number (fail_finish state.noted.plan.with_bytes state.retries booked left (end_of state found.row)) state)
     (closing state place)
 
+-- the file is as it is to be, and its mark stands or may stand
+abbrev pub finished_as : Bool → FileState
+finished_as stood = if stood then file.Finished else file.Doubtful
+
+abbrev pub ended_file : Option rc.Node → Bool → FileRow → FileRow
+ended_file goal stood row = record row { stands = goal; state = finished_as stood }
+
+abbrev pub finish : State → Bool → Closing → State
+finish state stood found = all_synced (with_file found.number (ended_file (end_of state found.row) stood) state)
+
+-- what a stop leaves of a unit and of a file, by their marks
+abbrev pub stopped_unit : UnitRow → Option Bool → UnitRow
+stopped_unit row mark = in_state (unit_by (stands_in mark)) row
+
+abbrev pub stopped_file : List Node → FileRow → Option Bool → FileRow
+stopped_file image row mark = record (synced row) { stands = node_at image (key_of row.file.item.path); state = file_by (stands_in mark) }
+
+abbrev pub stopped_units : List Bool → List UnitRow → List UnitRow
+stopped_units marks rows = numbered (λ row n. stopped_unit row (slice_get marks n)) 0 rows
+
+abbrev pub stopped_files : List Node → List Bool → List FileRow → List FileRow
+stopped_files image marks rows = numbered (λ row n. stopped_file image row (slice_get marks n)) 0 rows
+
+abbrev pub stop : State → List Node → List Bool → List Bool → State
+stop state image units finished = record state {
+  units = stopped_units units state.units;
+  files = stopped_files image finished state.files;
+  stopped = true;
+}
+
+-- what is marked is done, all else is free or open, and no attempt is booked
+abbrev pub rerun_unit : UnitRow → UnitRow
+rerun_unit row = record row { state = unit_by (is_marked row.state); attempts = 0 }
+
+abbrev pub rerun_file : FileRow → FileRow
+rerun_file row = record row { state = file_by (is_finished row.state); attempts = 0 }
+
+abbrev pub rerun : State → State
+rerun state = record state {
+  units = map rerun_unit state.units;
+  files = map rerun_file state.files;
+  next = 1;
+  stopped = false;
+}
+
 -- What an event does to a state that allows it
 abbrev pub after : State → Event → State
 after state (event.Claim n) = where_some state (claim state n) (unit_row state n)
 after state (event.Put n ticket bytes) = where_some state (put_unit state n bytes) (held_under state n ticket)
 after state (event.Settle n ticket) = where_some state (λ found. settle_unit state n found.row found.holding) (held_under state n ticket)
 after state (event.Mark n ticket stood) = where_some state (λ found. with_unit n (in_state (marked_as stood) found.row) state) (held_under state n ticket)
+after state (event.Finish item stood) = where_some state (finish state stood) (closing state item)
 after state (event.Fail what ticket booked left) = fail state what ticket booked (option_map node_of left)
+after state (event.Stop image units finished) = stop state image units finished
+after state event.Rerun = rerun state
 
--- what an answer says: a state that allows the event goes on by it, one that does not refuses it, and memory may be
--- wanting; then all is as it was
+-- what an answer says of an event with a condition: where it holds the state goes on by the event, where it does not the
+-- event is refused, and memory may be wanting; then all is as it was
+abbrev pub Answers : {T : Type 0} → Type 0 → State → Event → Result T CoreErr → State → Type 0
+Answers may state event (Ok done) new = may × (new ≡ after state event)
+Answers may state event (Err (core_err.NotAllowed n)) new = (n ≡ number_of event) × (¬ may) × (new ≡ state)
+Answers may state event (Err core_err.NoMemory) new = new ≡ state
+
 abbrev pub Steps : {T : Type 0} → State → Event → Result T CoreErr → State → Type 0
-Steps state event (Ok done) new = Allows state event × (new ≡ after state event)
-Steps state event (Err (core_err.NotAllowed n)) new = (n ≡ number_of event) × (¬ Allows state event) × (new ≡ state)
-Steps state event (Err core_err.NoMemory) new = new ≡ state
+Steps state event result new = Answers (Allows state event) state event result new
+
+-- the same of a state that is not stopped
+abbrev pub GoesOn : {T : Type 0} → State → Event → Result T CoreErr → State → Type 0
+GoesOn state event result new = Answers (Asks state event) state event result new
 
 -- a list of events, each where the state allows it
 pub data Run : State → List Event → State → Type 0 where

@@ -10,6 +10,7 @@ use Rattle.rc_class.specs.declared.decision.Act.TheVariants as act
 use Rattle.rc_class.specs.declared.decision.After.TheVariants.{Nothing}
 use Rattle.rc_class.specs.declared.item.Item.{Item}
 use Rattle.rc_class.specs.declared.noted.Noted.{Noted}
+use Rattle.rc_class.specs.declared.plan.Plan.{Plan}
 use Rattle.rc_class.specs.declared.rules.Rules.{Rules}
 use Rattle.rc_class.specs.Items.{are_rising, item_at}
 use Rattle.rc_class.specs.Sides.{Acts, Fits, IsDecidedIn}
@@ -100,10 +101,15 @@ IsHeldBy act.Copy old goal now = Unit {0}
 IsHeldBy _ old goal now = now ≡ old
 
 -- the same at a key of a start
-abbrev pub IsHeldAt : Start → Noted → Option Item → Option Node → Option Node → Option Node → Option Node → Type 0
-IsHeldAt start noted None source old goal now = now ≡ old
-IsHeldAt start noted (Some item) source old goal now =
-    IsHeldBy item.act old goal now × (is_copy item.act ≡ true → IsOnWay start.rules noted.plan item source old now)
+abbrev pub IsHeldAt : Start → Plan → Option Item → Option Node → Option Node → Option Node → Option Node → Type 0
+IsHeldAt start plan None source old goal now = now ≡ old
+IsHeldAt start plan (Some item) source old goal now =
+    IsHeldBy item.act old goal now × (is_copy item.act ≡ true → IsOnWay start.rules plan item source old now)
+
+-- and at a key of its target
+abbrev pub IsHeldIn : Start → Plan → Tree → List (List ℕ) → Type 0
+IsHeldIn start plan target key =
+    IsHeldAt start plan (item_at plan.items key) (get start.source key) (get start.target key) (goal_target start plan.moment key) (get target key)
 
 -- what becomes of the source's entry behind its copy may have become of it
 abbrev pub IsReleasing : Option Item → Option Node → Option Node → Option Node → Type 0
@@ -124,9 +130,7 @@ IsDecided start = (moment : ℕ) (key : List (List ℕ)) (item : Item) → start
 -- an image from which a run of a start goes on
 pub record IsHeld (start : Start) (image : Image) : Type 0 where
   pub plan : IsPlanOf start image.noted.plan
-  pub target : (key : List (List ℕ)) →
-      IsHeldAt start image.noted (item_at image.noted.plan.items key) (get start.source key) (get start.target key)
-      (goal_target start image.noted.plan.moment key) (get image.target key)
+  pub target : (key : List (List ℕ)) → IsHeldIn start image.noted.plan image.target key
   pub marks : MarksHold start.rules image.noted.plan image.noted.units image.noted.finished start.source start.target image.target
   pub source : image.noted.last ≡ false → image.source ≡ start.source
   pub last : image.noted.last ≡ true → IsLast start image

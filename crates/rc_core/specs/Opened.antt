@@ -1,5 +1,5 @@
 -- The state with which copying begins.
-use Rattle.std.specs.Prelude.{ℕ, ◌+◌, Bool, List, [], ◌∷◌, ◌++◌, Option, map, slice_get, if◌then◌else◌}
+use Rattle.std.specs.Prelude.{ℕ, ◌+◌, Bool, false, List, [], ◌∷◌, ◌++◌, Option, map, slice_get, if◌then◌else◌}
 use Rattle.rc_tree.specs.Path.{key_of}
 use Rattle.rc_class.specs.declared.item.Item.{Item}
 use Rattle.rc_class.specs.declared.noted.Noted.{Noted}
@@ -8,15 +8,13 @@ use Rattle.rc_class.specs.declared.rules.Rules.{Rules}
 use Rattle.rc_class.specs.Units.{Unit, is_copy, item_units}
 use Rattle.rc_core.specs.Follows.{Opening}
 use Rattle.rc_core.specs.Nodes.{node_at, tree_of}
-use Rattle.rc_core.specs.Rows.{has}
+use Rattle.rc_core.specs.Rows.{file_by, stands_in, unit_by}
 use Rattle.rc_core.specs.Touched.{untouched}
 use Rattle.rc_core.specs.declared.node.Node.{Node}
 use Rattle.rc_core.specs.declared.rows.Copied.{Copied}
 use Rattle.rc_core.specs.declared.rows.Extent.{Extent}
 use Rattle.rc_core.specs.declared.rows.FileRow.{FileRow}
-use Rattle.rc_core.specs.declared.rows.FileState.TheVariants as file
 use Rattle.rc_core.specs.declared.rows.UnitRow.{UnitRow}
-use Rattle.rc_core.specs.declared.rows.UnitState.TheVariants as unit
 use Rattle.rc_core.specs.declared.state.State.{State}
 
 abbrev pub copied_of : List Node → List Node → Item → ℕ → Copied
@@ -61,12 +59,12 @@ opened_file copied mark = record {
   file = copied;
   stands = copied.start;
   touched = untouched;
-  state = if has (λ stands. stands) mark then file.Finished else file.Open;
+  state = file_by (stands_in mark);
   attempts = 0;
 }
 
 abbrev pub opened_unit : Extent → Option Bool → UnitRow
-opened_unit extent mark = record { extent = extent; state = if has (λ stands. stands) mark then unit.Marked else unit.Free; attempts = 0 }
+opened_unit extent mark = record { extent = extent; state = unit_by (stands_in mark); attempts = 0 }
 
 abbrev pub opened_files : List Bool → List Copied → List FileRow
 opened_files marks copied = numbered (λ file n. opened_file file (slice_get marks n)) 0 copied
@@ -89,6 +87,7 @@ opened noted rules source target retries = record {
   files = opened_files noted.finished (files_of noted.plan source target);
   units = opened_units noted.units (extents_of noted.plan source target);
   next = 1;
+  stopped = false;
 }
 
 -- what a state began on

@@ -22,6 +22,10 @@ abbrev pub has : {A : Type 0} → (A → Bool) → Option A → Bool
 has test None = false
 has test (Some a) = test a
 
+-- a mark is there, and stands
+abbrev pub stands_in : Option Bool → Bool
+stands_in mark = has (λ stands. stands) mark
+
 -- what a call leaves: all that it does, or all as it was
 abbrev pub Leaves : {T E A : Type 0} → Result T E → A → A → A → Type 0
 Leaves (Ok done) old changed new = new ≡ changed
@@ -61,6 +65,10 @@ range_of extent = record { off = extent.off; len = extent.len }
 abbrev pub in_state : UnitState → UnitRow → UnitRow
 in_state now row = record row { state = now }
 
+-- durable where its mark stands, and else free
+abbrev pub unit_by : Bool → UnitState
+unit_by stands = if stands then unit.Marked else unit.Free
+
 -- Files
 
 abbrev pub is_open : FileState → Bool
@@ -80,6 +88,10 @@ is_done _ = false
 abbrev pub is_finished : FileState → Bool
 is_finished file.Finished = true
 is_finished _ = false
+
+-- as it is to be where its mark stands, and else open
+abbrev pub file_by : Bool → FileState
+file_by stands = if stands then file.Finished else file.Open
 
 -- the file that stands, or one as it is made
 abbrev pub begun : FileRow → Option Node → Node

@@ -5,13 +5,22 @@ use Rattle.rc_class.specs.Units.{Range}
 use Rattle.rc_core.specs.Copies.{Holds, IsMarked, IsOnWay}
 use Rattle.rc_core.specs.Follows.{IsOpen}
 use Rattle.rc_core.specs.Nodes.{are_rising}
-use Rattle.rc_core.specs.Opened.{extents_of, files_of, opening_of}
+use Rattle.rc_core.specs.Opened.{extents_of, files_of, opened, opening_of}
 use Rattle.rc_core.specs.Rows.{all_had, end_of, file_row, holding_of, is_done, is_finished, is_marked, is_settled, range_of, unit_row}
 use Rattle.rc_core.specs.declared.rows.Extent.{Extent}
 use Rattle.rc_core.specs.declared.rows.FileRow.{FileRow}
 use Rattle.rc_core.specs.declared.rows.Holding.{Holding}
 use Rattle.rc_core.specs.declared.rows.UnitRow.{UnitRow}
 use Rattle.rc_core.specs.declared.state.State.{State}
+
+-- Beginnings
+
+-- a state with which copying begins, on lists in the order of keys
+pub record IsFirst (state : State) : Type 0 where
+  pub begun : state ≡ opened state.noted state.rules state.source state.target state.retries
+  pub is_open : IsOpen (opening_of state)
+  pub source_rising : are_rising state.source ≡ true
+  pub target_rising : are_rising state.target ≡ true
 
 -- The rows are those of an opening
 

@@ -2,6 +2,8 @@
 -- property by itself.
 use Rattle.std.specs.Prelude.{◌≡◌, ◌⊎◌, ℕ, ◌+◌, ◌<◌, ◌≤◌, List, Option, Some, None, Contains, length, slice_get}
 use Rattle.rc_tree.specs.Tree.{Node}
+use Rattle.rc_core.specs.declared.aspects.Aspect.{Aspect}
+use Rattle.rc_core.specs.declared.aspects.Aspect.TheVariants as aspect
 
 -- a node that stood there, of which this holds
 abbrev pub Stood : List (Option Node) → (Node → Type 0) → Type 0
@@ -35,3 +37,19 @@ pub record MayBeNode (had : List (Option Node)) (puts : List (ℕ × ℕ)) (imag
 abbrev pub MayBeLeft : List (Option Node) → List (ℕ × ℕ) → Option Node → Type 0
 MayBeLeft had puts None = Contains had None
 MayBeLeft had puts (Some image) = MayBeNode had puts image
+
+-- Agreeing
+
+-- a node agrees in one aspect with one that stood
+abbrev pub Agrees : Aspect → Node → Node → Type 0
+Agrees aspect.Spelling image stood = image.spelling ≡ stood.spelling
+Agrees aspect.Kind image stood = image.kind ≡ stood.kind
+Agrees aspect.Attr image stood = image.props.attr ≡ stood.props.attr
+Agrees aspect.Created image stood = image.props.created ≡ stood.props.created
+Agrees aspect.Written image stood = image.props.written ≡ stood.props.written
+Agrees aspect.Access image stood = image.props.access ≡ stood.props.access
+Agrees aspect.Owner image stood = image.props.owner ≡ stood.props.owner
+Agrees aspect.Audit image stood = image.props.audit ≡ stood.props.audit
+Agrees aspect.NoShorter image stood = length stood.bytes ≤ length image.bytes
+Agrees aspect.NoLonger image stood = length image.bytes ≤ length stood.bytes
+Agrees (aspect.Byte at) image stood = (slice_get stood.bytes at ≡ slice_get image.bytes at) ⊎ (length stood.bytes ≤ at)

@@ -3,7 +3,7 @@
 ghost use Rattle.std.specs.Prelude.{◌≡◌, ◌<◌, Some};
 ghost use Rattle.std.specs.List.{position};
 ghost use Rattle.rc_core.specs.declared.event.Event.TheVariants.{Claim};
-ghost use Rattle.rc_core.specs.Events.{claim, is_claimable, Steps};
+ghost use Rattle.rc_core.specs.Events.{claim, is_claimable, GoesOn};
 ghost use Rattle.rc_core.specs.Rows.{unit_row};
 
 use crate::held::{is_claimable, unit_row};
@@ -11,7 +11,7 @@ use crate::{CoreErr, Holding, State, UnitRow, UnitState};
 
 // The least free unit is taken under the next ticket.
 pub(crate) fn claim(state: &mut State, unit: u32) -> Result<(), CoreErr>
-    ensures { Steps state.old (Claim unit) result state.new }
+    ensures { GoesOn state.old (Claim unit) result state.new }
 {
     if first_claimable(state) != Some(unit as usize) || state.next == u64::MAX {
         return Err(CoreErr::NotAllowed { event: 1 });

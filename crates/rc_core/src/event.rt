@@ -3,7 +3,8 @@
 ghost use Rattle.std.specs.Prelude.{◌≡◌};
 ghost use Rattle.rc_core.specs.Events.{number_of};
 
-use crate::{Bytes, Node};
+use crate::{Bytes, Node, Nodes};
+use rc_class::Marks;
 use thiserror::Error;
 
 /// What an attempt was made at: a unit by its number, or the finish of a file by its item's place in the plan.
@@ -37,6 +38,12 @@ pub enum Event {
         ticket: u64,
         stood: bool,
     },
+    /// The open file of an item is as it is to be, and the target is durable. Its mark was written, and may have failed to
+    /// stand.
+    Finish {
+        item: u32,
+        stood: bool,
+    },
     /// An attempt ended before its time, and this is left of the file. Where it is booked it counts.
     Fail {
         what: What,
@@ -44,10 +51,18 @@ pub enum Event {
         booked: bool,
         left: Option<Node>,
     },
+    /// The run was stopped. This was left of the target, and these marks of the units and of the files.
+    Stop {
+        image: Nodes,
+        units: Marks,
+        finished: Marks,
+    },
+    /// What was stopped is run again.
+    Rerun,
 }
 
 impl Event {
-    /// Its number. 5 is kept for the finish of a file.
+    /// Its number, from 1.
     pub fn number(&self) -> u8
         ensures { result ≡ number_of self.now }
     {
@@ -56,7 +71,10 @@ impl Event {
             Event::Put { .. } => 2,
             Event::Settle { .. } => 3,
             Event::Mark { .. } => 4,
+            Event::Finish { .. } => 5,
             Event::Fail { .. } => 6,
+            Event::Stop { .. } => 7,
+            Event::Rerun => 8,
         }
     }
 }

@@ -3,7 +3,7 @@
 ghost use Rattle.std.specs.Prelude.{◌≡◌, ◌<◌, ◌↔◌, ◌∷◌, [], IfOk, IsTrue, Some, length, option_map};
 ghost use Rattle.rc_core.specs.declared.event.Event.TheVariants.{Fail};
 ghost use Rattle.rc_core.specs.declared.event.What.TheVariants.{Finish, Unit as OfUnit};
-ghost use Rattle.rc_core.specs.Events.{fail_file, failed_file, fail_finish, fail_unit, given_up_at, with_attempt, IsAtKey, IsLeftOfFinish, IsLeftOfUnit, Steps};
+ghost use Rattle.rc_core.specs.Events.{fail_file, failed_file, fail_finish, fail_unit, given_up_at, with_attempt, IsAtKey, IsLeftOfFinish, IsLeftOfUnit, GoesOn};
 ghost use Rattle.rc_core.specs.Nodes.{node_of};
 ghost use Rattle.rc_core.specs.Rows.{begun, changed_at, end_size, with_file, Leaves};
 ghost use Rattle.rc_volume.specs.Site.{resized};
@@ -28,7 +28,7 @@ pub(crate) fn fail(
     booked: bool,
     left: &Option<Node>,
 ) -> Result<(), CoreErr>
-    ensures { Steps state.old (Fail what ticket booked left.now) result state.new }
+    ensures { GoesOn state.old (Fail what ticket booked left.now) result state.new }
 {
     let Ok(stands) = standing_of(alloc, left) else {
         return Err(CoreErr::NoMemory);
@@ -106,7 +106,7 @@ fn fail_unit(
     stands: Option<Standing>,
 ) -> Result<(), CoreErr>
     requires { stands ≡ option_map node_of left.now }
-    ensures { Steps state.old (Fail (OfUnit unit) ticket booked left.now) result state.new }
+    ensures { GoesOn state.old (Fail (OfUnit unit) ticket booked left.now) result state.new }
 {
     let Some((row, holding, file)) = held(state, unit, ticket) else {
         return Err(CoreErr::NotAllowed { event: 6 });
@@ -263,7 +263,7 @@ fn fail_finish(
     stands: Option<Standing>,
 ) -> Result<(), CoreErr>
     requires { stands ≡ option_map node_of left.now }
-    ensures { Steps state.old (Fail (Finish place) ticket booked left.now) result state.new }
+    ensures { GoesOn state.old (Fail (Finish place) ticket booked left.now) result state.new }
 {
     if ticket != 0 {
         return Err(CoreErr::NotAllowed { event: 6 });

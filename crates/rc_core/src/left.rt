@@ -9,13 +9,13 @@ use crate::parts::{before, past};
 use crate::{Extent, FileRow, Standing};
 use rc_tree::{Attr, Props, Security, Text};
 
-fn is_same_text(a: &Text, b: &Text) -> bool
+pub(crate) fn is_same_text(a: &Text, b: &Text) -> bool
     ensures { IsTrue result ↔ a.now ≡ b.now }
 {
     a == b
 }
 
-fn is_same_security(a: &Security, b: &Security) -> bool
+pub(crate) fn is_same_security(a: &Security, b: &Security) -> bool
     ensures { IsTrue result ↔ a.now ≡ b.now }
 {
     a.bytes() == b.bytes()
@@ -30,7 +30,7 @@ fn are_same_props(a: &Props, b: &Props) -> bool
     attr & times & security
 }
 
-fn is_same_attr(a: Attr, b: Attr) -> bool
+pub(crate) fn is_same_attr(a: Attr, b: Attr) -> bool
     ensures { IsTrue result ↔ a ≡ b }
 {
     a == b

@@ -2,7 +2,7 @@
 
 ghost use Rattle.std.specs.Prelude.{◌≡◌, ◌<◌, length};
 ghost use Rattle.rc_core.specs.declared.event.Event.TheVariants.{Settle, Mark};
-ghost use Rattle.rc_core.specs.Events.{marked_as, settle_unit, Steps};
+ghost use Rattle.rc_core.specs.Events.{marked_as, settle_unit, GoesOn};
 ghost use Rattle.rc_core.specs.Rows.{in_state, with_unit};
 
 use crate::held::held;
@@ -10,7 +10,7 @@ use crate::{CoreErr, Holding, State, UnitRow, UnitState};
 
 // All bytes of a unit are put, and the target is durable.
 pub(crate) fn settle(state: &mut State, unit: u32, ticket: u64) -> Result<(), CoreErr>
-    ensures { Steps state.old (Settle unit ticket) result state.new }
+    ensures { GoesOn state.old (Settle unit ticket) result state.new }
 {
     let Some((row, holding, _)) = held(state, unit, ticket) else {
         return Err(CoreErr::NotAllowed { event: 3 });
@@ -43,7 +43,7 @@ fn settle_unit(state: &mut State, unit: u32, row: UnitRow, holding: Holding)
 
 // A unit's mark was written, and stands or may stand.
 pub(crate) fn mark(state: &mut State, unit: u32, ticket: u64, stood: bool) -> Result<(), CoreErr>
-    ensures { Steps state.old (Mark unit ticket stood) result state.new }
+    ensures { GoesOn state.old (Mark unit ticket stood) result state.new }
 {
     let Some((row, holding, _)) = held(state, unit, ticket) else {
         return Err(CoreErr::NotAllowed { event: 4 });

@@ -11,10 +11,10 @@ ghost use Rattle.rc_core.specs.Sound.{Sound};
 
 use crate::fails::standing;
 use crate::laws::soundness_is_kept;
+use crate::marks::{file_by, mark_at, stands_in, unit_by};
 use crate::rows::copy_some;
 use crate::{
-    Copied, Extent, FileRow, FileRows, FileState, Node, Nodes, Standing, State, Touched, UnitRow,
-    UnitRows, UnitState,
+    Copied, Extent, FileRow, FileRows, Node, Nodes, Standing, State, Touched, UnitRow, UnitRows,
 };
 use rc_class::{Item, Noted, Plan, Rules, ranges_fill_a_file};
 use rc_tree::{NoMemory, Path};
@@ -49,6 +49,7 @@ impl State {
             files,
             units,
             next: 1,
+            stopped: false,
         })
     }
 }
@@ -121,12 +122,6 @@ fn push_file(
     Ok(())
 }
 
-fn mark_at(marks: &[bool], n: usize) -> Option<bool>
-    ensures { result ≡ slice_get marks.now n }
-{
-    marks.get(n).copied()
-}
-
 fn opened_file(alloc: Global, file: Copied, mark: Option<bool>) -> Result<FileRow, NoMemory>
     ensures { IfOk result (λ row. row ≡ opened_file file mark) }
 {
@@ -135,10 +130,7 @@ fn opened_file(alloc: Global, file: Copied, mark: Option<bool>) -> Result<FileRo
         file,
         stands,
         touched: Touched::nothing(alloc),
-        state: match mark {
-            Some(true) => FileState::Finished,
-            Some(false) | None => FileState::Open,
-        },
+        state: file_by(stands_in(mark)),
         attempts: 0,
     })
 }
@@ -165,7 +157,11 @@ fn copied_of(
 }
 
 // What stands at the key of a path.
-fn node_at(alloc: Global, nodes: &[Node], path: &Path) -> Result<Option<Standing>, NoMemory>
+pub(crate) fn node_at(
+    alloc: Global,
+    nodes: &[Node],
+    path: &Path,
+) -> Result<Option<Standing>, NoMemory>
     ensures { IfOk result (λ node. node ≡ node_at nodes.now (key_of path.now)) }
 {
     match find_node(nodes, path) {
@@ -277,10 +273,7 @@ fn opened_unit(extent: &Extent, mark: Option<bool>) -> UnitRow
 {
     UnitRow {
         extent: *extent,
-        state: match mark {
-            Some(true) => UnitState::Marked,
-            Some(false) | None => UnitState::Free,
-        },
+        state: unit_by(stands_in(mark)),
         attempts: 0,
     }
 }

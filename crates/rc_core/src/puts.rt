@@ -4,7 +4,7 @@ ghost use Rattle.std.specs.Prelude.{◌≡◌, ◌+◌, ◌≤◌, ◌<◌, nat_
 ghost use Rattle.std.specs.Str.{bytes_eq};
 ghost use Rattle.rc_volume.specs.Reading.{part_of};
 ghost use Rattle.rc_core.specs.declared.event.Event.TheVariants.{Put};
-ghost use Rattle.rc_core.specs.Events.{is_next_piece, is_of_source, prepare_unit, put_piece, Steps};
+ghost use Rattle.rc_core.specs.Events.{is_next_piece, is_of_source, prepare_unit, put_piece, GoesOn};
 ghost use Rattle.rc_core.specs.Rows.{Leaves};
 
 use crate::files::{prepare_in, put_in};
@@ -22,7 +22,7 @@ pub(crate) fn put(
     ticket: u64,
     bytes: &[u8],
 ) -> Result<(), CoreErr>
-    ensures { Steps state.old (Put unit ticket bytes.now) result state.new }
+    ensures { GoesOn state.old (Put unit ticket bytes.now) result state.new }
 {
     let Some((row, holding, file)) = held(state, unit, ticket) else {
         return Err(CoreErr::NotAllowed { event: 2 });

@@ -94,6 +94,18 @@ pub(crate) fn copy_some(
     }
 }
 
+// The same file.
+pub(crate) fn copy_file(alloc: Global, file: &Copied) -> Result<Copied, NoMemory>
+    ensures { IfOk result (λ copy. copy ≡ file.now) }
+{
+    Ok(Copied {
+        place: file.place,
+        item: file.item.copy(alloc)?,
+        source: copy_some(alloc, &file.source)?,
+        start: copy_some(alloc, &file.start)?,
+    })
+}
+
 /// Where a unit lies: its file's number among the copied files, from 0, and its range of bytes.
 #[derive(Clone, Copy, Debug, PartialEq, Eq)]
 pub struct Extent {
@@ -183,7 +195,7 @@ fn sync_rows(rows: &mut [FileRow])
 /// The units, in their order. Contracts see them as the list.
 #[derive(Debug, Drop)]
 pub struct UnitRows {
-    rows: Vec<UnitRow>,
+    pub(crate) rows: Vec<UnitRow>,
 }
 
 impl Model for UnitRows {

@@ -17,4 +17,6 @@ pub struct State {
     pub units: UnitRows,
     /// The next ticket. 0 means not held.
     pub next: u64,
+    /// Whether a stop ended the run. Then it is to be run again before all else.
+    pub stopped: bool,
 }

@@ -38,6 +38,20 @@ impl Touched {
         }
     }
 
+    /// What it had.
+    pub(crate) fn had(&self) -> &[Option<Standing>]
+        ensures { result.now ≡ self.now.had }
+    {
+        self.had.as_slice()
+    }
+
+    /// The ranges that were put.
+    pub(crate) fn puts(&self) -> &[(u64, u64)]
+        ensures { result.now ≡ self.now.puts }
+    {
+        self.puts.as_slice()
+    }
+
     /// It had these too, and these ranges were put. Where memory is wanting all is as it was.
     pub(crate) fn add(
         &mut self,

@@ -1,23 +1,27 @@
 //! Events one after another, and which of them are refused.
 
 use crate::samples::{file, made, one_file, two_files};
-use rc_core::{Bytes, CoreErr, Event, Node, State, What, step};
+use rc_class::Marks;
+use rc_core::{Bytes, CoreErr, Event, Node, Nodes, State, What, step};
 use std::alloc::Global;
 use std::test::Fail;
 
-// An event in short.
+// An event in short. A stop has its image and whether the marks of the one unit and of the one file stand.
 #[derive(Clone, Copy, Debug)]
-enum Short {
+pub enum Short {
     Claim(u32),
     Put(u32, u64, &'static str),
     Settle(u32, u64),
-    Mark(u32, u64),
+    Mark(u32, u64, bool),
+    Finish(u32, bool),
     Fail(What, u64, Left),
+    Stop(Left, bool, bool),
+    Rerun,
 }
 
 // What a failed call left: nothing, or a file of this path with these bytes, as a site makes it or as the source has it.
 #[derive(Clone, Copy, Debug)]
-enum Left {
+pub enum Left {
     Nothing,
     Made(&'static str, &'static str),
     Whole(&'static str, &'static str),
@@ -27,7 +31,7 @@ enum Left {
 type Row = (Short, u8);
 
 use Left::{Made, Nothing, Whole};
-use Short::{Claim, Fail as Failed, Mark, Put, Settle};
+use Short::{Claim, Fail as Failed, Finish, Mark, Put, Rerun, Settle, Stop};
 
 const UNIT: What = What::Unit(0);
 
@@ -43,8 +47,12 @@ const ONE_FILE: &[(u32, &[Row])] = &[
             (Put(0, 1, ""), 0),
             (Put(0, 1, "abc"), 0),
             (Settle(0, 1), 0),
-            (Mark(0, 1), 0),
+            (Finish(0, true), 5),
+            (Mark(0, 1, true), 0),
             (Claim(0), 1),
+            (Finish(1, true), 5),
+            (Finish(0, true), 0),
+            (Finish(0, true), 5),
         ],
     ),
     // It is settled once all its bytes are put, and not marked before.
@@ -53,7 +61,7 @@ const ONE_FILE: &[(u32, &[Row])] = &[
         &[
             (Claim(0), 0),
             (Settle(0, 1), 3),
-            (Mark(0, 1), 4),
+            (Mark(0, 1, true), 4),
             (Put(0, 1, ""), 0),
             (Put(0, 1, "ab"), 0),
             (Settle(0, 1), 3),
@@ -94,7 +102,7 @@ const ONE_FILE: &[(u32, &[Row])] = &[
             (Put(0, 1, "abc"), 0),
             (Settle(0, 1), 0),
             (Failed(FINISH, 0, Nothing), 6),
-            (Mark(0, 1), 0),
+            (Mark(0, 1, true), 0),
             (Failed(FINISH, 0, Whole("a", "ab")), 6),
             (Failed(FINISH, 0, Whole("a", "abc")), 0),
             (Failed(FINISH, 0, Whole("a", "abc")), 6),
@@ -133,6 +141,19 @@ fn node_left(alloc: Global, left: Left) -> Result<Option<Node>, Fail> {
     }
 }
 
+// The image of a target with this alone.
+fn nodes(alloc: Global, node: Option<Node>) -> Result<Nodes, Fail> {
+    let mut list = Vec::new(alloc);
+    if let Some(node) = node {
+        list.push(node)?;
+    }
+    Ok(Nodes::new(list))
+}
+
+fn mark(alloc: Global, stands: bool) -> Result<Marks, Fail> {
+    Ok(Marks::new(vec![in alloc; stands; 1]?))
+}
+
 fn event(alloc: Global, short: Short) -> Result<Event, Fail> {
     Ok(match short {
         Claim(unit) => Event::Claim { unit },
@@ -142,22 +163,29 @@ fn event(alloc: Global, short: Short) -> Result<Event, Fail> {
             bytes: Bytes::new(bytes.as_bytes().to_vec(alloc)?),
         },
         Settle(unit, ticket) => Event::Settle { unit, ticket },
-        Mark(unit, ticket) => Event::Mark {
+        Mark(unit, ticket, stood) => Event::Mark {
             unit,
             ticket,
-            stood: true,
+            stood,
         },
+        Finish(item, stood) => Event::Finish { item, stood },
         Failed(what, ticket, node) => Event::Fail {
             what,
             ticket,
             booked: true,
             left: node_left(alloc, node)?,
         },
+        Stop(image, unit, finish) => Event::Stop {
+            image: nodes(alloc, node_left(alloc, image)?)?,
+            units: mark(alloc, unit)?,
+            finished: mark(alloc, finish)?,
+        },
+        Rerun => Event::Rerun,
     })
 }
 
 // The number of the event where it is refused, and 0 where it is allowed.
-fn refused(alloc: Global, state: &mut State, short: Short) -> Result<u8, Fail> {
+pub fn refused(alloc: Global, state: &mut State, short: Short) -> Result<u8, Fail> {
     let event = event(alloc, short)?;
     match step(alloc, state, &event) {
         Ok(()) => Ok(0),
