@@ -1,5 +1,5 @@
 -- What a drill read, how its run ended, and what it wrote.
-use Rattle.std.proofs.Common.{◌≡◌, ◌⊎◌, ℕ, ◌+◌, ◌<◌, ◌≤◌, Bool, true, false, List, [], ◌∷◌, ◌++◌, length, drop, Option, Some, None, Result, Ok, Err, inl, inr, refl, sym, ap, subst, ◌∙◌, arith, true≢false}
+use Rattle.std.proofs.Common.{◌≡◌, ◌⊎◌, ℕ, ◌+◌, ◌<◌, ◌≤◌, Bool, true, false, List, [], ◌∷◌, ◌++◌, ◌||◌, length, drop, Option, Some, None, Result, Ok, Err, inl, inr, refl, sym, ap, subst, ◌∙◌, arith, true≢false}
 use Rattle.std.specs.Prelude.{IfErr, IfOk, OnOk, nat_lt, option_map, if◌then◌else◌}
 use Rattle.std.specs.List.{count_by}
 use Rattle.std.specs.Str.{IsUtf8, chars, encode_utf8_all}
@@ -14,10 +14,9 @@ use Rattle.rc_mem.specs.MemSite.{told_by}
 use Rattle.rc_run.specs.declared.outcome.Outcome.{Outcome}
 use Rattle.rc_run.specs.declared.outcome.Outcome.TheVariants as out
 use Rattle.rc_run.specs.declared.outcome.Unbuilt.TheVariants as unbuilt
-use Rattle.rc_run.specs.Answers.{AreBitsOf, IsExpected, RunLeaves, Sends, is_empty, site_refusal, start_refusal, unplanned}
-use Rattle.rc_run.specs.Goal.{IsMirrored, items_at}
-use Rattle.rc_run.specs.Outcome.{IfDone, at_copies, at_end, at_report, ending, finished, first_step, last_step, status_of}
-use Rattle.rc_report.specs.Report.{bits_of, totals_of}
+use Rattle.rc_run.specs.Answers.{Answers, IsExpected, IsInMode, IsSilentBefore, RunLeaves, Sends, bits_in, is_empty, report_in, site_refusal, start_refusal, unplanned}
+use Rattle.rc_run.specs.Goal.{IsMirrored}
+use Rattle.rc_run.specs.Outcome.{IfDone, IfReported, at_copies, at_end, at_report, ending, first_step, is_reported, last_step, status_of}
 use Rattle.rc_run.specs.Words.{asked}
 use Rattle.rc_class.specs.declared.item.Item.{Item}
 use Rattle.rc_filter.specs.Acts.{copies_bytes}
@@ -34,7 +33,7 @@ use Rattle.drill.specs.declared.run.Stop.{Stop}
 use Rattle.drill.specs.declared.run.Stop.TheVariants.{Input, SiteText, NoMemory}
 use Rattle.drill.specs.declared.run.TheConstants.{GREATEST_TEXT}
 use Rattle.rc_sitetext.specs.declared.site_file.SiteFile.{SiteFile}
-use Rattle.drill.specs.Drilling.{Drills, IsCutIn, IsNoSite, IsSiteText, OfSome, Prints, WritesOut, WritesOne, drill_text, told_of, whole_line}
+use Rattle.drill.specs.Drilling.{Drills, IsCutIn, IsNoSite, IsRun, IsSiteText, OfSome, Prints, WritesOut, WritesOne, drill_text, told_of, whole_line}
 use Rattle.drill.specs.Finishing.{Ends, refusal_line, stop_failed}
 
 -- Stops
@@ -184,11 +183,6 @@ refused_end words moment start now outcome report refused silent same = inl (rec
   answer = refl;
 })
 
--- a run is finished where it is done
-finished_done : (outcome : Outcome) → ending outcome ≡ finished → (bits : ℕ) × (at : ℕ) × (outcome ≡ out.Done bits at)
-finished_done (out.Done bits at) e = (bits, at, refl)
-finished_done _ e = cc
-
 -- a site is refused before anything is changed or reported
 limit_early : (with_bytes : Bool) (items : List Item) (e : PlanErr) → limit_of with_bytes items ≡ Some e → last_step (ending (unplanned e)) < at_copies
 limit_early with_bytes items (plan_err.TooMany side count) is = omega arith
@@ -204,7 +198,7 @@ limit_early with_bytes items plan_err.NoMemory is = absurd (no_memory (nat_lt 50
     no_memory false false false big e = cc
 
 refused_early : (job : Job) (told : Told) (moment : ℕ) (refusal : Outcome) → site_refusal job told moment ≡ Some refusal → last_step (ending refusal) < at_copies
-refused_early job told moment refusal e = by (is_empty told.notes) (limit_in job told moment) refl e
+refused_early job told moment refusal e = by (job.list_only || is_empty told.notes) (limit_in job told moment) refl e
   where
     same : (x y : Outcome) → Some x ≡ Some y → x ≡ y
     same x y h = cc
@@ -220,8 +214,9 @@ pub record Runs (words : List (List ℕ)) (moment : ℕ) (start now : Told) (out
   pub expected : IsExpected (start_refusal (asked words) start moment) outcome
   pub leaves : IfOk (asked words) (λ job. RunLeaves job moment start now outcome)
   pub sends : IfOk (asked words) (λ job. Sends job moment start outcome before report)
-  pub reported : IfOk (asked words) (λ job. (report ≡ before) ⊎ IsMirrored (start_in job start) moment now)
-  pub bits : IfOk (asked words) (λ job. IfDone outcome (AreBitsOf job start))
+  pub reported : IfOk (asked words) (λ job. IsSilentBefore before report job moment start now)
+  pub mode : IfOk (asked words) (λ job. IsInMode job outcome)
+  pub bits : IfOk (asked words) (λ job. IfReported outcome (λ bits. bits ≡ bits_in job start moment))
   pub begun : IfDone outcome (λ bits at. at ≡ moment)
   pub silent : last_step (ending outcome) < at_report → report ≡ before
 
@@ -242,7 +237,7 @@ cut_end words moment start now outcome report r same = inr (record {
     by_refusal (Ok job) h = tt
     by_refusal (Err refusal) h = (h.1, h.0)
 
-    by_request : (a : Result Job Outcome) → IfOk a (λ job. RunLeaves job moment start now outcome) → IfOk a (λ job. Sends job moment start outcome [] report) → IfOk a (λ job. (report ≡ []) ⊎ IsMirrored (start_in job start) moment now)
+    by_request : (a : Result Job Outcome) → IfOk a (λ job. RunLeaves job moment start now outcome) → IfOk a (λ job. Sends job moment start outcome [] report) → IfOk a (λ job. IsSilentBefore [] report job moment start now)
         → IfOk a (λ job. IsCutIn job moment start (record { report = report; outcome = outcome; now = now }))
     by_request (Ok job) leaves sends reported = record {
       leaves = subst (λ (o : Outcome). RunLeaves job moment start now o) same leaves;
@@ -251,27 +246,44 @@ cut_end words moment start now outcome report r same = inr (record {
     }
     by_request (Err refusal) leaves sends reported = tt
 
-done_end : (words : List (List ℕ)) (moment : ℕ) (start now : Told) (outcome : Outcome) (report : List ℕ) (job : Job) → Runs words moment start now outcome [] report → asked words ≡ Ok job → site_refusal job start moment ≡ None → ending outcome ≡ finished
+-- of a run whose report was written: it was carried out, or listed alone
+reported_end : (words : List (List ℕ)) (moment : ℕ) (start now : Told) (outcome : Outcome) (report : List ℕ) (job : Job) → asked words ≡ Ok job → site_refusal job start moment ≡ None → is_reported (ending outcome) ≡ true
+    → IsInMode job outcome → RunLeaves job moment start now outcome → Sends job moment start outcome [] report → IfReported outcome (λ bits. bits ≡ bits_in job start moment) → IfDone outcome (λ bits at. at ≡ moment)
+    → IsRun words moment start (record { report = report; outcome = outcome; now = now })
+reported_end words moment start now (out.Done bits at) report job asks accepted whole mode leaves sends counted begun =
+    inr (inl (record {
+      job = job;
+      asks = asks;
+      accepted = accepted;
+      changes = mode.done refl;
+      outcome = ap (λ (m : ℕ). out.Done bits m) begun ∙ ap (λ (b : ℕ). out.Done b moment) counted;
+      report = sends.whole whole;
+      now = leaves.mirrored (mode.done refl) (omega arith);
+    }))
+reported_end words moment start now (out.Listed bits) report job asks accepted whole mode leaves sends counted begun =
+    inr (inr (record {
+      job = job;
+      asks = asks;
+      accepted = accepted;
+      lists = mode.listed refl;
+      outcome = ap (λ (b : ℕ). out.Listed b) counted;
+      report = sends.whole whole;
+      now = leaves.listed (mode.listed refl);
+    }))
+reported_end words moment start now other report job asks accepted whole mode leaves sends counted begun = absurd (true≢false (sym whole))
+
+done_end : (words : List (List ℕ)) (moment : ℕ) (start now : Told) (outcome : Outcome) (report : List ℕ) (job : Job) → Runs words moment start now outcome [] report → asked words ≡ Ok job → site_refusal job start moment ≡ None → is_reported (ending outcome) ≡ true
     → Ends words moment start (drill_text moment (record { report = report; outcome = outcome; now = now })) (status_of outcome)
 done_end words moment start now outcome report job r asks accepted done =
-    let at = finished_done outcome done in
-    let bits : IfDone outcome (AreBitsOf job start) = subst (λ (a : Result Job Outcome). IfOk a (λ q. IfDone outcome (AreBitsOf q start))) asks r.bits in
-    let sends : Sends job moment start outcome [] report = subst (λ (a : Result Job Outcome). IfOk a (λ q. Sends q moment start outcome [] report)) asks r.sends in
-    let leaves : RunLeaves job moment start now outcome = subst (λ (a : Result Job Outcome). IfOk a (λ q. RunLeaves q moment start now outcome)) asks r.leaves in
-    let begun : at.1 ≡ moment = subst (λ (o : Outcome). IfDone o (λ b m. m ≡ moment)) at.2 r.begun in
-    let counted : AreBitsOf job start at.0 at.1 = subst (λ (o : Outcome). IfDone o (AreBitsOf job start)) at.2 bits in
     inl (record {
       end = record { report = report; outcome = outcome; now = now };
-      ends = inr (record {
-        job = job;
-        asks = asks;
-        accepted = accepted;
-        outcome =
-            at.2 ∙ ap (λ (m : ℕ). out.Done at.0 m) begun
-            ∙ ap (λ (b : ℕ). out.Done b moment) (counted ∙ ap (λ (m : ℕ). bits_of (totals_of (items_at job start m))) begun);
-        report = sends.whole done;
-        now = leaves.mirrored (let e : first_step (ending outcome) ≡ at_end = ap first_step done in omega (arith, e));
-      });
+      ends =
+          reported_end words moment start now outcome report job asks accepted done
+          (subst (λ (a : Result Job Outcome). IfOk a (λ q. IsInMode q outcome)) asks r.mode)
+          (subst (λ (a : Result Job Outcome). IfOk a (λ q. RunLeaves q moment start now outcome)) asks r.leaves)
+          (subst (λ (a : Result Job Outcome). IfOk a (λ q. Sends q moment start outcome [] report)) asks r.sends)
+          (subst (λ (a : Result Job Outcome). IfOk a (λ q. IfReported outcome (λ bits. bits ≡ bits_in q start moment))) asks r.bits)
+          r.begun;
       text = refl;
       answer = refl;
     })
@@ -309,6 +321,11 @@ ends_so words moment last file start now outcome before report at is none r =
     (subst (λ (b : List ℕ). Runs words moment (told_of file) now outcome b report) none
     (subst (λ (m : ℕ). Runs words m (told_of file) now outcome before report) at
     (subst (λ (s : Told). Runs words last s now outcome before report) is r)))
+
+-- what is said of accepted words says in which way a run ends
+pub mode_of : (a : Result Job Outcome) (tells : Bool) (told : Told) (moment : ℕ) (outcome : Outcome) → IfOk a (λ job. Answers tells job told moment outcome) → IfOk a (λ job. IsInMode job outcome)
+mode_of (Ok job) tells told moment outcome said = said.mode
+mode_of (Err refusal) tells told moment outcome said = tt
 
 -- a site that is the one that was handed in tells the same
 pub told_same : (a : Result Job Outcome) (site end : MemSite) (before report : List ℕ) (more : Type 0) → IfErr a (λ refusal. (end ≡ site) × (report ≡ before) × more) → IfErr a (λ refusal. (told_by end ≡ told_by site) × (report ≡ before))

@@ -1,17 +1,16 @@
 -- What a drill prints of a site text, and what it answers.
-use Rattle.std.specs.Prelude.{◌≡◌, ◌⊎◌, ℕ, ◌≤◌, Bool, true, List, [], ◌∷◌, ◌++◌, length, codes, decimal, encode_utf8_all, Some, None, Ok, IfOk, IfErr}
+use Rattle.std.specs.Prelude.{◌≡◌, ◌⊎◌, ℕ, ◌≤◌, Bool, true, false, List, [], ◌∷◌, ◌++◌, length, codes, decimal, encode_utf8_all, Some, None, Ok, IfOk, IfErr}
 use Rattle.rc_job.specs.declared.job.Job.{Job}
 use Rattle.rc_tree.specs.declared.moment.TheConstants.{GREATEST_MOMENT}
 use Rattle.rc_volume.specs.Site.{Told}
 use Rattle.rc_volume.specs.Streams.{AppendsFront}
 use Rattle.rc_run.specs.declared.outcome.Outcome.{Outcome}
-use Rattle.rc_run.specs.declared.outcome.Outcome.TheVariants.{Done, NoMemory}
-use Rattle.rc_run.specs.Answers.{RunLeaves, site_refusal, start_refusal}
-use Rattle.rc_run.specs.Goal.{IsMirrored, items_at}
+use Rattle.rc_run.specs.declared.outcome.Outcome.TheVariants.{Done, Listed, NoMemory}
+use Rattle.rc_run.specs.Answers.{IsSilentBefore, RunLeaves, bits_in, report_in, site_refusal, start_refusal}
+use Rattle.rc_run.specs.Goal.{IsMirrored}
 use Rattle.rc_run.specs.Outcome.{line_of, status_of}
 use Rattle.rc_run.specs.Words.{asked}
 use Rattle.rc_plan.specs.Plan.{start_in}
-use Rattle.rc_report.specs.Report.{bits_of, report_of, totals_of}
 use Rattle.drill.specs.declared.run.TheConstants.{GREATEST_TEXT}
 use Rattle.rc_sitetext.specs.declared.site_file.SiteFile.{SiteFile}
 use Rattle.rc_sitetext.specs.SiteText.{IsSpellable, site_text}
@@ -68,21 +67,33 @@ pub record IsCarriedOut (words : List (List ℕ)) (moment : ℕ) (start : Told) 
   pub job : Job
   pub asks : asked words ≡ Ok job
   pub accepted : site_refusal job start moment ≡ None
-  pub outcome : end.outcome ≡ Done (bits_of (totals_of (items_at job start moment))) moment
-  pub report : end.report ≡ report_of (items_at job start moment)
+  pub changes : job.list_only ≡ false
+  pub outcome : end.outcome ≡ Done (bits_in job start moment) moment
+  pub report : end.report ≡ report_in job start moment
   pub now : IsMirrored (start_in job start) moment end.now
+
+-- listed under `/L`: the same report and bits, and nothing changed
+pub record IsListed (words : List (List ℕ)) (moment : ℕ) (start : Told) (end : End) : Type 0 where
+  pub job : Job
+  pub asks : asked words ≡ Ok job
+  pub accepted : site_refusal job start moment ≡ None
+  pub lists : job.list_only ≡ true
+  pub outcome : end.outcome ≡ Listed (bits_in job start moment)
+  pub report : end.report ≡ report_in job start moment
+  pub now : end.now ≡ start
 
 -- how a run of these words ends by the rules
 abbrev pub IsRun : List (List ℕ) → ℕ → Told → End → Type 0
-IsRun words moment start end = IsRefused words moment start end ⊎ IsCarriedOut words moment start end
+IsRun words moment start end =
+    IsRefused words moment start end ⊎ IsCarriedOut words moment start end ⊎ IsListed words moment start end
 
 -- what a run of a job leaves that memory stopped: each key of the target as it was, or as its item has begun to change it,
 -- and each key of the source as it was or with its goal; all else as it was; and nothing reported before both trees are the
--- goals
+-- goals, unless the plan is listed alone
 pub record IsCutIn (job : Job) (moment : ℕ) (start : Told) (end : End) : Type 0 where
   pub leaves : RunLeaves job moment start end.now NoMemory
-  pub report : AppendsFront [] (report_of (items_at job start moment)) end.report
-  pub reported : (end.report ≡ []) ⊎ IsMirrored (start_in job start) moment end.now
+  pub report : AppendsFront [] (report_in job start moment) end.report
+  pub reported : IsSilentBefore [] end.report job moment start end.now
 
 -- ended for want of memory; for words that are refused with nothing reported and nothing changed
 pub record IsCutShort (words : List (List ℕ)) (moment : ℕ) (start : Told) (end : End) : Type 0 where

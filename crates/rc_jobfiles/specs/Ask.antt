@@ -30,8 +30,6 @@ abbrev pub unbuilt : List ℕ
 unbuilt =
     -- /NOSD, /NODD
     2 ∷ 3
-    -- /L, /V, /NFL, /NDL, /NC, /NS, /NJH, /NJS, /BYTES, /FP, /TS
-    ∷ 49 ∷ 50 ∷ 51 ∷ 52 ∷ 53 ∷ 54 ∷ 55 ∷ 56 ∷ 57 ∷ 58 ∷ 59
     -- /JOB:, /SAVE:, /QUIT, /DROP
     ∷ 68 ∷ 69 ∷ 70 ∷ 71
     ∷ []

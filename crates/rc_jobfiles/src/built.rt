@@ -6,11 +6,9 @@ use crate::lookup::number_of;
 use rc_words::{Placed, Setting};
 
 // Those that have none so far, by their numbers in the switch table.
-const UNBUILT: [u8; 17] = [
+const UNBUILT: [u8; 6] = [
     // /NOSD, /NODD
     2, 3, //
-    // /L, /V, /NFL, /NDL, /NC, /NS, /NJH, /NJS, /BYTES, /FP, /TS
-    49, 50, 51, 52, 53, 54, 55, 56, 57, 58, 59, //
     // /JOB:, /SAVE:, /QUIT, /DROP
     68, 69, 70, 71,
 ];

@@ -6,7 +6,7 @@ ghost use Rattle.rc_record.specs.Spelling.{IsAllowed, IsWritable};
 ghost use Rattle.rc_record.specs.Writing.{HasPlace, IsOpened};
 
 use rc_class::{Noted, Plan, unit_count};
-use rc_fixture::{Call, FailingSite};
+use rc_failing::{Call, FailingSite};
 use rc_mem::{MemSite, Tree};
 use rc_record::{MarkPlace, RecordErr, TEXT_MAX, begin, clear, load, mark, open_gate};
 use rc_stop::StopSite;
@@ -222,9 +222,10 @@ const CALLS: &[(Call, u64)] = &[
 fn fail_at(alloc: Global, call: Call, before: u64, plan: &Plan) -> Result<bool, Fail>
     requires writable { IsWritable plan.now }
 {
-    let mut site = FailingSite::new(site_with(alloc, Vec::new(alloc))?, call, before);
+    let mut site = FailingSite::new(alloc, site_with(alloc, Vec::new(alloc))?);
+    site.fail_kind(call, before, u64::MAX);
     let first = write_all(alloc, &mut site, plan);
-    site.before = 100;
+    site.fail_kind(call, 100, u64::MAX);
     let second = write_all(alloc, &mut site, plan);
     Ok(first == Err(RecordErr::RecordFault) && second.is_ok() && site.behind.notes().is_empty())
 }

@@ -1,1 +1,4 @@
+pub mod Given
 pub mod Report
+pub mod Stamps
+pub mod Totals

@@ -1,92 +1,23 @@
--- Totals, exit bits and the text of a report, by the items of a plan.
-use Rattle.std.specs.Prelude.{ℕ, ◌+◌, ◌-◌, Bool, true, false, not, ◌&&◌, List, [], ◌∷◌, ◌++◌, length, replicate, codes, decimal, flat_map, sum_by, encode_utf8_all, if◌then◌else◌, nat_lt}
+-- The text of a report.
+use Rattle.std.specs.Prelude.{ℕ, ◌-◌, ◌*◌, ◌/◌, ◌%◌, Bool, true, false, not, ◌&&◌, ◌||◌, List, [], ◌∷◌, ◌++◌, Option, Some, None, length, replicate, codes, decimal, flat_map, encode_utf8_all, if◌then◌else◌, nat_lt}
 use Rattle.rc_tree.specs.declared.attr.Kind.{Kind}
 use Rattle.rc_tree.specs.declared.attr.Kind.TheVariants.{File, Dir}
 use Rattle.rc_class.specs.declared.class.Class.{Class}
 use Rattle.rc_class.specs.declared.class.Class.TheVariants as class
 use Rattle.rc_class.specs.declared.decision.Act.{Act}
 use Rattle.rc_class.specs.declared.decision.Act.TheVariants as act
+use Rattle.rc_class.specs.declared.facts.Facts.{Facts}
 use Rattle.rc_class.specs.declared.item.Item.{Item}
+use Rattle.rc_class.specs.declared.rules.GivenUp.{GivenUp}
 use Rattle.rc_class.specs.Class.{is_extra}
+use Rattle.rc_job.specs.declared.job.Job.{Job}
 use Rattle.rc_report.specs.declared.totals.Column.{Column}
 use Rattle.rc_report.specs.declared.totals.Column.TheVariants.{Total, Copied, Skipped, Mismatch, Failed, Extras}
-use Rattle.rc_report.specs.declared.totals.Measure.{Measure}
-use Rattle.rc_report.specs.declared.totals.Measure.TheVariants.{Keys, Bytes}
-use Rattle.rc_report.specs.declared.totals.Row.{Row}
 use Rattle.rc_report.specs.declared.totals.Totals.{Totals}
+use Rattle.rc_report.specs.Stamps.{stamp_of}
+use Rattle.rc_report.specs.Totals.{columns, reported, totals_of, Reported}
 
--- Columns
-
--- whether the source has an entry of an item's key
-abbrev pub has_source : Item → Bool
-has_source item = not (is_extra item.class)
-
--- whether a key with this act counts in a column, by whether the source has an entry of it
-abbrev pub counts_in : Column → Act → Bool → Bool
-counts_in Total act in_source = in_source
-counts_in Copied act.Copy in_source = true
-counts_in Copied act.Make in_source = true
-counts_in Copied other in_source = false
-counts_in Skipped act.Touch in_source = in_source
-counts_in Skipped act.Fix in_source = in_source
-counts_in Skipped (act.Keep reason) in_source = in_source
-counts_in Skipped other in_source = false
-counts_in Mismatch act.Mismatch in_source = in_source
-counts_in Mismatch other in_source = false
-counts_in Failed act in_source = false
-counts_in Extras act.Extra in_source = true
-counts_in Extras act.Purge in_source = true
-counts_in Extras other in_source = false
-
-abbrev pub is_kind : Kind → Kind → Bool
-is_kind File File = true
-is_kind File Dir = false
-is_kind Dir File = false
-is_kind Dir Dir = true
-
--- whether an item counts in a column of the row of a kind
-abbrev pub is_in : Column → Kind → Item → Bool
-is_in column kind item = is_kind kind item.facts.kind && counts_in column item.act (has_source item)
-
--- Sums
-
-abbrev pub value_of : Measure → Item → ℕ
-value_of Keys item = 1
-value_of Bytes item = item.facts.size
-
--- what an item adds to a column
-abbrev pub share_of : Measure → Kind → Column → Item → ℕ
-share_of measure kind column item = if is_in column kind item then value_of measure item else 0
-
-abbrev pub sum_in : Measure → Kind → List Item → Column → ℕ
-sum_in measure kind items column = sum_by (share_of measure kind column) items
-
-abbrev pub row_of : Measure → Kind → List Item → Row
-row_of measure kind items = record {
-  total = sum_in measure kind items Total;
-  copied = sum_in measure kind items Copied;
-  skipped = sum_in measure kind items Skipped;
-  mismatch = sum_in measure kind items Mismatch;
-  failed = sum_in measure kind items Failed;
-  extras = sum_in measure kind items Extras;
-}
-
-abbrev pub totals_of : List Item → Totals
-totals_of items = record { dirs = row_of Keys Dir items; files = row_of Keys File items; bytes = row_of Bytes File items }
-
--- Exit bits
-
--- a bit where there was any
-abbrev pub bit_where : ℕ → ℕ → ℕ
-bit_where count value = if nat_lt 0 count then value else 0
-
--- 1 for copied files, 2 for extras, 4 for mismatches, 8 for keys that were given up
-abbrev pub bits_of : Totals → ℕ
-bits_of t =
-    bit_where t.files.copied 1 + bit_where (t.dirs.extras + t.files.extras) 2
-    + bit_where (t.dirs.mismatch + t.files.mismatch) 4 + bit_where (t.dirs.failed + t.files.failed) 8
-
--- Text
+-- Places and parts
 
 -- a text of ASCII characters at the left or at the right of so many places; a longer one is whole
 abbrev pub left_in : ℕ → List ℕ → List ℕ
@@ -97,6 +28,50 @@ right_in width text = replicate (width - length text) 32 ++ text
 
 abbrev pub line_end : List ℕ
 line_end = 10 ∷ []
+
+-- texts with a separator between them
+abbrev pub joined : ℕ → List (List ℕ) → List ℕ
+joined separator [] = []
+joined separator (text ∷ texts) =
+    encode_utf8_all text ++ flat_map (λ (next : List ℕ). separator ∷ encode_utf8_all next) texts
+
+-- the names of a path with `\` between them
+abbrev pub path_text : List (List ℕ) → List ℕ
+path_text path = joined 92 path
+
+-- a root as it was given; one that was not is empty
+abbrev pub root_text : Option (List ℕ) → List ℕ
+root_text None = []
+root_text (Some root) = encode_utf8_all root
+
+-- Sizes
+
+-- the tenths of a size in this unit, rounded down
+abbrev pub tenths : ℕ → ℕ → ℕ
+tenths unit size = size * 10 / unit
+
+abbrev pub in_tenths : ℕ → ℕ → List ℕ
+in_tenths unit size =
+    decimal (tenths unit size / 10) ++ codes "." ++ decimal (tenths unit size % 10)
+
+-- a size: a plain number where that is asked for or it is below 1 MiB, else in MiB, and from 1 GiB
+-- on in GiB
+abbrev pub size_text : Bool → ℕ → List ℕ
+size_text plain size =
+    if plain || nat_lt size 1048576 then decimal size
+    else if nat_lt size 1073741824 then in_tenths 1048576 size ++ codes " m"
+    else in_tenths 1073741824 size ++ codes " g"
+
+-- The header
+
+abbrev pub header_of : Job → ℕ → List ℕ
+header_of job moment =
+    codes "ROBOCOPY\n  Source : " ++ root_text job.source
+    ++ codes "\n  Dest   : " ++ root_text job.target
+    ++ codes "\n  Moment : " ++ encode_utf8_all (stamp_of moment)
+    ++ codes "\n  Files  : " ++ joined 32 job.files ++ codes "\n\n"
+
+-- Tags
 
 -- what a copy is called by the class of its file
 abbrev pub class_tag : Class → List ℕ
@@ -114,63 +89,121 @@ abbrev pub extra_tag : Kind → List ℕ
 extra_tag File = codes "*EXTRA File"
 extra_tag Dir = codes "*EXTRA Dir"
 
--- the first words of a line
-abbrev pub tag_of : Act → Class → Kind → List ℕ
-tag_of act.Copy class kind = class_tag class
-tag_of act.Make class kind = codes "New Dir"
-tag_of act.Touch class kind = codes "Dir"
-tag_of act.Fix class kind = codes "Fixed"
-tag_of act.Purge class kind = extra_tag kind
-tag_of act.Extra class kind = extra_tag kind
-tag_of act.Mismatch class kind = codes "*Mismatch"
-tag_of (act.Keep reason) class kind = codes "skipped"
+-- what a key is called by its act
+abbrev pub act_tag : Act → Class → Kind → List ℕ
+act_tag act.Copy class kind = class_tag class
+act_tag act.Make class kind = codes "New Dir"
+act_tag act.Touch class kind = codes "Dir"
+act_tag act.Fix class kind = codes "Fixed"
+act_tag act.Purge class kind = extra_tag kind
+act_tag act.Extra class kind = extra_tag kind
+act_tag act.Mismatch class kind = codes "*Mismatch"
+act_tag (act.Keep reason) class kind = codes "skipped"
 
--- whether a key with this act has a line: only what is kept has none
-abbrev pub is_shown : Act → Bool
-is_shown (act.Keep reason) = false
-is_shown other = true
+abbrev pub tag_of : Reported → List ℕ
+tag_of r = if r.given_up then codes "FAILED" else act_tag r.item.act r.item.class r.item.facts.kind
+
+-- Lines
+
+-- whether directories, or files, have no lines
+abbrev pub is_hidden : Job → Kind → Bool
+is_hidden job File = job.nfl
+is_hidden job Dir = job.ndl
+
+abbrev pub is_kept : Act → Bool
+is_kept (act.Keep reason) = true
+is_kept other = false
+
+-- whether a key has a line; what is kept has one under `/V` alone
+abbrev pub is_shown : Job → Item → Bool
+is_shown job item =
+    not (is_hidden job item.facts.kind) && (job.verbose || not (is_kept item.act))
 
 -- a directory has no size
-abbrev pub size_text : Kind → ℕ → List ℕ
-size_text File size = decimal size
-size_text Dir size = codes "-"
-
--- the names with `\` between them
-abbrev pub path_text : List (List ℕ) → List ℕ
-path_text [] = []
-path_text (name ∷ names) = encode_utf8_all name ++ flat_map (λ (next : List ℕ). 92 ∷ encode_utf8_all next) names
+abbrev pub entry_size : Bool → Kind → ℕ → List ℕ
+entry_size plain File size = size_text plain size
+entry_size plain Dir size = codes "-"
 
 -- what stands behind a path: a directory has a `\`
 abbrev pub path_end : Kind → List ℕ
 path_end File = []
 path_end Dir = codes "\\"
 
+abbrev pub tag_column : Bool → Reported → List ℕ
+tag_column without r = if without then [] else left_in 12 (tag_of r)
+
+abbrev pub size_column : Job → Facts → List ℕ
+size_column job facts =
+    if job.ns then [] else right_in 12 (entry_size job.plain_bytes facts.kind facts.size)
+
+abbrev pub time_column : Bool → ℕ → List ℕ
+time_column with written =
+    if with then codes "  " ++ encode_utf8_all (stamp_of written) else []
+
+-- the root that an entry of this class stands below
+abbrev pub root_of : Job → Class → Option (List ℕ)
+root_of job class = if is_extra class then job.target else job.source
+
+abbrev pub path_front : Job → Class → List ℕ
+path_front job class =
+    if job.full_path then root_text (root_of job class) ++ codes "\\" else []
+
 -- the line of a key that has one
-abbrev pub shown_line : Item → List ℕ
-shown_line item =
-    codes "  " ++ left_in 12 (tag_of item.act item.class item.facts.kind) ++ right_in 12 (size_text item.facts.kind item.facts.size)
-    ++ codes "  " ++ path_text item.path ++ path_end item.facts.kind ++ line_end
+abbrev pub shown_line : Job → Reported → List ℕ
+shown_line job r =
+    codes "  " ++ tag_column job.nc r ++ size_column job r.item.facts
+    ++ time_column job.with_time r.item.facts.written
+    ++ codes "  " ++ path_front job r.item.class ++ path_text r.item.path
+    ++ path_end r.item.facts.kind ++ line_end
 
-abbrev pub item_line : Item → List ℕ
-item_line item = if is_shown item.act then shown_line item else []
+abbrev pub line_of : Job → Reported → List ℕ
+line_of job r = if is_shown job r.item then shown_line job r else []
 
--- the columns of the summary
-abbrev pub columns : List ℕ
-columns =
-    replicate 9 32 ++ right_in 10 (codes "Total") ++ right_in 10 (codes "Copied") ++ right_in 10 (codes "Skipped")
-    ++ right_in 10 (codes "Mismatch") ++ right_in 10 (codes "FAILED") ++ right_in 10 (codes "Extras") ++ line_end
+-- The summary
 
-abbrev pub row_line : List ℕ → Row → List ℕ
-row_line name row =
-    right_in 7 name ++ codes " :" ++ right_in 10 (decimal row.total) ++ right_in 10 (decimal row.copied)
-    ++ right_in 10 (decimal row.skipped) ++ right_in 10 (decimal row.mismatch) ++ right_in 10 (decimal row.failed)
-    ++ right_in 10 (decimal row.extras) ++ line_end
+abbrev pub title : Column → List ℕ
+title Total = codes "Total"
+title Copied = codes "Copied"
+title Skipped = codes "Skipped"
+title Mismatch = codes "Mismatch"
+title Failed = codes "FAILED"
+title Extras = codes "Extras"
 
--- an empty line, the columns and the three rows
-abbrev pub summary : Totals → List ℕ
-summary t =
-    line_end ++ columns ++ row_line (codes "Dirs") t.dirs ++ row_line (codes "Files") t.files ++ row_line (codes "Bytes") t.bytes
+abbrev pub title_line : List ℕ
+title_line =
+    replicate 9 32 ++ flat_map (λ (column : Column). right_in 10 (title column)) columns ++ line_end
 
--- a line for each key that has one, and the summary
-abbrev pub report_of : List Item → List ℕ
-report_of items = flat_map item_line items ++ summary (totals_of items)
+-- what a row begins with
+abbrev pub row_front : List ℕ → List ℕ
+row_front name = right_in 7 name ++ codes " :"
+
+-- the sizes of a row, or plain numbers
+abbrev pub row_sizes : Bool → List ℕ → List ℕ
+row_sizes plain row = flat_map (λ (size : ℕ). right_in 10 (size_text plain size)) row
+
+abbrev pub row_line : List ℕ → Bool → List ℕ → List ℕ
+row_line name plain row = row_front name ++ row_sizes plain row ++ line_end
+
+-- an empty line, the titles and the three rows
+abbrev pub summary_of : Bool → Totals → List ℕ
+summary_of plain t =
+    line_end ++ title_line ++ row_line (codes "Dirs") true t.dirs
+    ++ row_line (codes "Files") true t.files ++ row_line (codes "Bytes") plain t.bytes
+
+-- The report
+
+abbrev pub header_part : Job → ℕ → List ℕ
+header_part job moment = if job.njh then [] else header_of job moment
+
+-- a line for each key that has one
+abbrev pub lines_of : Job → List Item → List GivenUp → List ℕ
+lines_of job items failed = flat_map (line_of job) (reported items failed)
+
+abbrev pub summary_part : Job → List Item → List GivenUp → List ℕ
+summary_part job items failed =
+    if job.njs then [] else summary_of job.plain_bytes (totals_of items failed)
+
+-- the header, the lines and the summary of what was decided at a moment
+abbrev pub report_of : Job → ℕ → List Item → List GivenUp → List ℕ
+report_of job moment items failed =
+    header_part job moment ++ (lines_of job items failed ++ summary_part job items failed)

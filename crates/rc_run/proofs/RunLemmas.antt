@@ -1,5 +1,5 @@
 -- What the steps of a run say of it, by how it ends.
-use Rattle.std.proofs.Common.{◌≡◌, ℕ, ◌+◌, zero, suc, ◌<◌, ◌≤◌, Bool, true, false, not, ◌&&◌, ◌||◌, List, [], ◌∷◌, ◌++◌, Option, Some, None, length, get_or, inl, refl, sym, ap, subst, ◌∙◌, arith}
+use Rattle.std.proofs.Common.{◌≡◌, ℕ, ◌+◌, zero, suc, ◌<◌, ◌≤◌, Bool, true, false, not, ◌&&◌, ◌||◌, List, [], ◌∷◌, ◌++◌, Option, Some, None, length, get_or, inl, inr, refl, sym, ap, subst, ◌∙◌, arith}
 use Rattle.std.proofs.Math.Seq.{take-length}
 use Rattle.std.proofs.lemmas.Bool.{true≢false, ltb-false}
 use Rattle.std.proofs.lemmas.List.{append-nil}
@@ -47,9 +47,9 @@ use Rattle.rc_volume.specs.Site.{Seen, Told}
 use Rattle.rc_run.specs.declared.outcome.Outcome.{Outcome}
 use Rattle.rc_run.specs.declared.outcome.Outcome.TheVariants.{NotYet}
 use Rattle.rc_run.specs.declared.outcome.Unbuilt.TheVariants as unbuilt
-use Rattle.rc_run.specs.Answers.{Answers, RunLeaves, Sends, copying_of, is_empty, site_refusal, uncopied, unfinished, unplanned}
+use Rattle.rc_run.specs.Answers.{Answers, IsInMode, IsSilentBefore, RunLeaves, Sends, copying_of, is_empty, report_by, report_in, site_refusal, uncopied, unfinished, unplanned}
 use Rattle.rc_run.specs.Goal.{IsMirrored, items_at}
-use Rattle.rc_run.specs.Outcome.{Ending, EndsAt, at_copies, at_end, at_limits, at_listing, at_record, at_report, at_words, cause_of, ending, failed, finished, first_step, last_step, out_of_memory, refused, unreported}
+use Rattle.rc_run.specs.Outcome.{Ending, EndsAt, at_copies, at_end, at_limits, at_listing, at_record, at_report, at_words, cause_of, ending, failed, finished, first_step, is_reported, last_step, listed, out_of_memory, refused, unreported}
 use Rattle.rc_run.specs.Under.{AreReleased, AreReleasing, AreUnderWay, HaveGoals, IsLasting, IsLastingOn, IsReleasing, ReleasesLast, changes_any}
 use Rattle.rc_run.proofs.PassLemmas.{ArePassable}
 
@@ -70,6 +70,7 @@ EndsAt-first from to holds (refused step) h = h.1
 EndsAt-first from to holds (failed step part) h = h.1
 EndsAt-first from to holds unreported h = h.1
 EndsAt-first from to holds finished h = h.1
+EndsAt-first from to holds listed h = h.1
 EndsAt-first from to holds out_of_memory h = omega arith
 
 pub EndsAt-last : (from to : ℕ) (holds : Type 0) (e : Ending) → EndsAt from to holds e → from ≤ last_step e
@@ -77,15 +78,24 @@ EndsAt-last from to holds (refused step) h = h.0
 EndsAt-last from to holds (failed step part) h = h.0
 EndsAt-last from to holds unreported h = h.0
 EndsAt-last from to holds finished h = h.0
+EndsAt-last from to holds listed h = h.0
 EndsAt-last from to holds out_of_memory h = h
 
--- and is finished behind the last of them alone
-pub EndsAt-unfinished : (from to : ℕ) (holds : Type 0) (e : Ending) → to < at_end → EndsAt from to holds e → e ≡ finished → ⊥
-EndsAt-unfinished from to holds (refused step) l h same = cc
-EndsAt-unfinished from to holds (failed step part) l h same = cc
-EndsAt-unfinished from to holds unreported l h same = cc
-EndsAt-unfinished from to holds finished l h same = absurd (omega (arith, h.1, l))
-EndsAt-unfinished from to holds out_of_memory l h same = cc
+-- and the report is whole behind the last of them alone
+pub EndsAt-unreported : (from to : ℕ) (holds : Type 0) (e : Ending) → to < at_end → EndsAt from to holds e → is_reported e ≡ true → ⊥
+EndsAt-unreported from to holds (refused step) l h same = absurd (true≢false (sym same))
+EndsAt-unreported from to holds (failed step part) l h same = absurd (true≢false (sym same))
+EndsAt-unreported from to holds unreported l h same = absurd (true≢false (sym same))
+EndsAt-unreported from to holds finished l h same = absurd (omega (arith, h.1, l))
+EndsAt-unreported from to holds listed l h same = absurd (omega (arith, h.1, l))
+EndsAt-unreported from to holds out_of_memory l h same = absurd (true≢false (sym same))
+
+-- so the plan is neither listed nor carried out
+pub EndsAt-mode : (job : Job) (from to : ℕ) (holds : Type 0) (o : Outcome) → to < at_end → EndsAt from to holds (ending o) → IsInMode job o
+EndsAt-mode job from to holds o early h = record {
+  listed = λ same. absurd (EndsAt-unreported from to holds (ending o) early h (ap is_reported same));
+  done = λ same. absurd (EndsAt-unreported from to holds (ending o) early h (ap is_reported same));
+}
 
 -- a refusal among them is that of which it holds
 pub EndsAt-refused : (from to : ℕ) (holds : Type 0) (e : Ending) (step : ℕ) → EndsAt from to holds e → e ≡ refused step → holds
@@ -93,29 +103,38 @@ EndsAt-refused from to holds (refused at) step h same = h.2
 EndsAt-refused from to holds (failed at part) step h same = cc
 EndsAt-refused from to holds unreported step h same = cc
 EndsAt-refused from to holds finished step h same = cc
+EndsAt-refused from to holds listed step h same = cc
 EndsAt-refused from to holds out_of_memory step h same = cc
 
 -- what an answer of these steps says of the site
-pub answers_so : (tells : Bool) (job : Job) (told : Told) (moment from to : ℕ) (holds : Type 0) (o : Outcome) → EndsAt from to holds (ending o) → at_words < from → (holds → tells ≡ true → site_refusal job told moment ≡ Some o) → (at_record < to → tells ≡ true → told.notes ≡ []) → (at_limits < to → tells ≡ true → limit_in job told moment ≡ None) → Answers tells job told moment o
-answers_so tells job told moment from to holds o h behind refusal notes within =
+pub answers_so : (tells : Bool) (job : Job) (told : Told) (moment from to : ℕ) (holds : Type 0) (o : Outcome) → EndsAt from to holds (ending o) → IsInMode job o → at_words < from → (holds → tells ≡ true → site_refusal job told moment ≡ Some o) → (at_record < to → job.list_only ≡ false → tells ≡ true → told.notes ≡ []) → (at_limits < to → tells ≡ true → limit_in job told moment ≡ None) → Answers tells job told moment o
+answers_so tells job told moment from to holds o h mode behind refusal notes within =
     let first = EndsAt-first from to holds (ending o) h in
     let last = EndsAt-last from to holds (ending o) h in
     record {
       behind_words = omega (arith, behind, last);
+      mode = mode;
       refusal = λ step same. refusal (EndsAt-refused from to holds (ending o) step h same);
       no_record = λ l. notes (omega (arith, l, first));
       within = λ l. within (omega (arith, l, first));
     }
 
--- a site with a record is refused for it, and another for a limit
-pub record_refusal : (job : Job) (told : Told) (moment : ℕ) (o : Outcome) → o ≡ NotYet unbuilt.Record → is_empty told.notes ≡ false → site_refusal job told moment ≡ Some o
-record_refusal job told moment o same some =
-    ap (λ (b : Bool). if b then option_map unplanned (limit_in job told moment) else Some (NotYet unbuilt.Record)) some
+-- a site with a record is refused for it, where that is read, and another for a limit
+abbrev refusal_by : Bool → Bool → Job → Told → ℕ → Option Outcome
+refusal_by lists none job told moment = if lists || none then option_map unplanned (limit_in job told moment) else Some (NotYet unbuilt.Record)
+
+pub record_refusal : (job : Job) (told : Told) (moment : ℕ) (o : Outcome) → o ≡ NotYet unbuilt.Record → job.list_only ≡ false → is_empty told.notes ≡ false → site_refusal job told moment ≡ Some o
+record_refusal job told moment o same reads some =
+    ap (λ (lists : Bool). refusal_by lists (is_empty told.notes) job told moment) reads
+    ∙ ap (λ (none : Bool). refusal_by false none job told moment) some
     ∙ ap (λ (x : Outcome). Some x) (sym same)
 
-pub limit_refusal : (job : Job) (told : Told) (moment : ℕ) (o : Outcome) → told.notes ≡ [] → option_map unplanned (limit_in job told moment) ≡ Some o → site_refusal job told moment ≡ Some o
-limit_refusal job told moment o none passed =
-    ap (λ (b : Bool). if b then option_map unplanned (limit_in job told moment) else Some (NotYet unbuilt.Record)) (ap is_empty none) ∙ passed
+pub limit_refusal : (job : Job) (told : Told) (moment : ℕ) (o : Outcome) → (job.list_only ≡ false → told.notes ≡ []) → option_map unplanned (limit_in job told moment) ≡ Some o → site_refusal job told moment ≡ Some o
+limit_refusal job told moment o none passed = by job.list_only none ∙ passed
+  where
+    by : (lists : Bool) → (lists ≡ false → told.notes ≡ []) → refusal_by lists (is_empty told.notes) job told moment ≡ option_map unplanned (limit_in job told moment)
+    by true none = refl
+    by false none = ap (λ (is : Bool). refusal_by false is job told moment) (ap is_empty (none refl))
 
 -- a plan is refused by the limit that is passed
 pub plan_ends : (e : PlanErr) (tells : Bool) (passed : Option PlanErr) → (tells ≡ true → MayRefuse passed e) → EndsAt at_listing at_limits (tells ≡ true → option_map unplanned passed ≡ Some (unplanned e)) (ending (unplanned e))
@@ -127,7 +146,8 @@ plan_ends plan_err.NoMemory tells passed is = omega arith
 -- an answer that comes before the copies leaves all as it was
 pub leaves_all : (job : Job) (moment : ℕ) (start end : Told) (o : Outcome) (from to : ℕ) (holds : Type 0) → EndsAt from to holds (ending o) → to < at_copies → end ≡ start → RunLeaves job moment start end o
 leaves_all job moment start end o from to holds h early same = record {
-  mirrored = λ l. absurd (omega (arith, l, early, EndsAt-first from to holds (ending o) h));
+  mirrored = λ _ l. absurd (omega (arith, l, early, EndsAt-first from to holds (ending o) h));
+  listed = λ _. same;
   unchanged = λ _. same;
   between = λ key. inl (ap (λ (told : Told). get told.target key) same);
   releasing = λ key. inl (ap (λ (told : Told). get told.source key) same);
@@ -136,17 +156,22 @@ leaves_all job moment start end o from to holds h early same = record {
 
 pub sends_nothing : (job : Job) (moment : ℕ) (start : Told) (o : Outcome) (from to : ℕ) (holds : Type 0) (old new : List ℕ) → EndsAt from to holds (ending o) → to < at_end → new ≡ old → Sends job moment start o old new
 sends_nothing job moment start o from to holds old new h early same = record {
-  whole = λ done. absurd (EndsAt-unfinished from to holds (ending o) early h done);
-  front = subst (λ (bs : List ℕ). AppendsFront old (report_of (items_at job start moment)) bs) (sym same) (AppendsFront-none old (report_of (items_at job start moment)));
+  whole = λ done. absurd (EndsAt-unreported from to holds (ending o) early h done);
+  front = subst (λ (bs : List ℕ). AppendsFront old (report_in job start moment) bs) (sym same) (AppendsFront-none old (report_in job start moment));
 }
 
 -- the report of a plan is that of the job
-pub sends_so : (job : Job) (at moment : ℕ) (start now : Told) (items : List Item) (o : Outcome) (old new : List ℕ) → items ≡ items_at job now at → now ≡ start → at ≡ moment → (ending o ≡ finished → new ≡ old ++ report_of items) → AppendsFront old (report_of items) new → Sends job moment start o old new
-sends_so job at moment start now items o old new are same begun whole front =
-    let is : items ≡ items_at job start moment = are ∙ ap (λ (told : Told). items_at job told at) same ∙ ap (λ (m : ℕ). items_at job start m) begun in
+pub report_so : (job : Job) (plan : Plan) (now start : Told) (moment : ℕ) → plan.items ≡ items_at job now plan.moment → now ≡ start → plan.moment ≡ moment → report_by job plan ≡ report_in job start moment
+report_so job plan now start moment are same begun =
+    ap (λ (i : List Item). report_of job plan.moment i []) (are ∙ ap (λ (told : Told). items_at job told plan.moment) same)
+    ∙ ap (λ (m : ℕ). report_in job start m) begun
+
+pub sends_so : (job : Job) (plan : Plan) (now start : Told) (moment : ℕ) (o : Outcome) (old new : List ℕ) → plan.items ≡ items_at job now plan.moment → now ≡ start → plan.moment ≡ moment → (is_reported (ending o) ≡ true → new ≡ old ++ report_by job plan) → AppendsFront old (report_by job plan) new → Sends job moment start o old new
+sends_so job plan now start moment o old new are same begun whole front =
+    let is = report_so job plan now start moment are same begun in
     record {
-      whole = λ done. whole done ∙ ap (λ (i : List Item). old ++ report_of i) is;
-      front = subst (λ (i : List Item). AppendsFront old (report_of i) new) is front;
+      whole = λ done. whole done ∙ ap (λ (bs : List ℕ). old ++ bs) is;
+      front = subst (λ (bs : List ℕ). AppendsFront old bs new) is front;
     }
 
 -- What a plan's items say
@@ -221,9 +246,10 @@ mirrored job plan start now is goals released notes none = record {
 }
 
 -- and so leave what a run that did all leaves
-pub leaves_done : (job : Job) (plan : Plan) (start now : Told) (o : Outcome) → plan.items ≡ items_at job start plan.moment → IsMirrored (start_in job start) plan.moment now → AreUnderWay (copying_of job plan.moment) plan.items start now.target → AreReleasing plan.items start now.source → now.notes ≡ start.notes → EndsAt at_report at_end ⊥ (ending o) → RunLeaves job plan.moment start now o
-leaves_done job plan start now o planned done between releasing notes ends = record {
-  mirrored = λ _. done;
+pub leaves_done : (job : Job) (plan : Plan) (start now : Told) (o : Outcome) → plan.items ≡ items_at job start plan.moment → (job.list_only ≡ false → IsMirrored (start_in job start) plan.moment now) → (job.list_only ≡ true → now ≡ start) → AreUnderWay (copying_of job plan.moment) plan.items start now.target → AreReleasing plan.items start now.source → now.notes ≡ start.notes → EndsAt at_report at_end ⊥ (ending o) → RunLeaves job plan.moment start now o
+leaves_done job plan start now o planned done stays between releasing notes ends = record {
+  mirrored = λ carried _. done carried;
+  listed = stays;
   unchanged = λ early. absurd (let last = EndsAt-last at_report at_end ⊥ (ending o) ends in omega (arith, early, last));
   between = subst (λ (i : List Item). AreUnderWay (copying_of job plan.moment) i start now.target) planned between;
   releasing = subst (λ (i : List Item). AreReleasing i start now.source) planned releasing;
@@ -231,14 +257,23 @@ leaves_done job plan start now o planned done between releasing notes ends = rec
 }
 
 -- and what one leaves that failed on its way
-pub leaves_failed : (job : Job) (plan : Plan) (start now : Told) (o : Outcome) → plan.items ≡ items_at job start plan.moment → AreUnderWay (copying_of job plan.moment) plan.items start now.target → AreReleasing plan.items start now.source → now.notes ≡ start.notes → EndsAt at_copies at_copies ⊥ (ending o) → RunLeaves job plan.moment start now o
-leaves_failed job plan start now o planned between releasing notes ends = record {
-  mirrored = λ late. absurd (let first = EndsAt-first at_copies at_copies ⊥ (ending o) ends in omega (arith, late, first));
+pub leaves_failed : (job : Job) (plan : Plan) (start now : Told) (o : Outcome) → plan.items ≡ items_at job start plan.moment → (job.list_only ≡ true → now ≡ start) → AreUnderWay (copying_of job plan.moment) plan.items start now.target → AreReleasing plan.items start now.source → now.notes ≡ start.notes → EndsAt at_copies at_copies ⊥ (ending o) → RunLeaves job plan.moment start now o
+leaves_failed job plan start now o planned stays between releasing notes ends = record {
+  listed = stays;
+  mirrored = λ _ late. absurd (let first = EndsAt-first at_copies at_copies ⊥ (ending o) ends in omega (arith, late, first));
   unchanged = λ early. absurd (let last = EndsAt-last at_copies at_copies ⊥ (ending o) ends in omega (arith, early, last));
   between = subst (λ (i : List Item). AreUnderWay (copying_of job plan.moment) i start now.target) planned between;
   releasing = subst (λ (i : List Item). AreReleasing i start now.source) planned releasing;
   notes = notes;
 }
+
+-- nothing is sent before that
+pub silent_so : (received_old received_new : List ℕ) (job : Job) (moment : ℕ) (start now : Told) → (job.list_only ≡ false → IsMirrored (start_in job start) moment now) → IsSilentBefore received_old received_new job moment start now
+silent_so received_old received_new job moment start now done = by job.list_only refl
+  where
+    by : (b : Bool) → job.list_only ≡ b → IsSilentBefore received_old received_new job moment start now
+    by true lists = inr (inr lists)
+    by false carried = inr (inl (done carried))
 
 -- the items of a plan are those that were decided at the start
 pub lasting_so : (job : Job) (items : List Item) (mid start : Told) (moment last : ℕ) (seen : Seen) → items ≡ items_at job mid moment → mid ≡ start → moment ≡ last → IsLasting items seen → IsLasting (items_at job start last) seen

@@ -20,7 +20,7 @@ use Rattle.rc_volume.specs.Site.{Seen}
 use Rattle.rc_run.specs.declared.outcome.Outcome.{Outcome}
 use Rattle.rc_run.specs.declared.outcome.Outcome.TheVariants.{NoMemory}
 use Rattle.rc_run.specs.Words.{asked, IfAccepted}
-use Rattle.rc_run.specs.Outcome.{WaitsFor, Ending, cause_of, ending, failed, finished, out_of_memory, refused, tries_at, unreported, at_listing}
+use Rattle.rc_run.specs.Outcome.{WaitsFor, Ending, cause_of, ending, failed, finished, listed, out_of_memory, refused, tries_at, unreported, at_listing}
 
 -- a fault is one failure at least
 one_failed : (at : Part) (n : ℕ) (before after : Part → ℕ) → 1 ≤ n → Counts (on at n) before after → (part : Part) → RoseBy (last_fault (on at n) part) (before part) (after part)
@@ -44,6 +44,7 @@ unwaited seconds retries (refused step) before after p counts = waits_never _ _ 
 unwaited seconds retries (failed step at) before after p counts = waits_never _ _ _ _ _ (one_failed at (tries_at retries step) before after (some_tries retries (step == at_listing)) counts)
 unwaited seconds retries unreported before after p counts = waits_never _ _ _ _ _ (λ part. omega (arith, counts part))
 unwaited seconds retries finished before after p counts = waits_never _ _ _ _ _ (λ part. omega (arith, counts part))
+unwaited seconds retries listed before after p counts = waits_never _ _ _ _ _ (λ part. omega (arith, counts part))
 unwaited seconds retries out_of_memory before after p counts = waits_never _ _ _ _ _ (λ part. omega (arith, counts part))
 
 -- a step without a pause that did not fail

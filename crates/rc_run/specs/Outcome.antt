@@ -10,7 +10,7 @@ use Rattle.rc_volume.specs.Faults.{Cause, Counts, RisesIf, RoseBy, free, on, par
 use Rattle.rc_volume.specs.Site.{Seen}
 use Rattle.rc_volume.specs.Waits.{Paused, Waits}
 use Rattle.rc_run.specs.declared.outcome.Outcome.{Outcome}
-use Rattle.rc_run.specs.declared.outcome.Outcome.TheVariants.{Done, Usage, NotYet, RootFault, ListFault, TooMany, TooBig, RecordFault, SiteFault, SinkFault, NoMemory}
+use Rattle.rc_run.specs.declared.outcome.Outcome.TheVariants.{Done, Listed, Usage, NotYet, RootFault, ListFault, TooMany, TooBig, RecordFault, SiteFault, SinkFault, NoMemory}
 use Rattle.rc_run.specs.declared.outcome.Unbuilt.{Unbuilt}
 use Rattle.rc_run.specs.declared.outcome.Unbuilt.TheVariants as unbuilt
 
@@ -50,6 +50,8 @@ pub data Ending : Type 0 where
   unreported : Ending
   -- all is done
   finished : Ending
+  -- the report says what would be done
+  listed : Ending
   -- memory was wanting, at whatever step
   out_of_memory : Ending
 
@@ -61,6 +63,7 @@ unbuilt_step unbuilt.Record = at_record
 -- the table
 abbrev pub ending : Outcome → Ending
 ending (Done bits moment) = finished
+ending (Listed bits) = listed
 ending (Usage file place kind) = refused at_words
 ending (NotYet what) = refused (unbuilt_step what)
 ending (RootFault side) = failed at_roots (part_for side)
@@ -80,6 +83,7 @@ first_step (refused step) = step
 first_step (failed step part) = step
 first_step unreported = at_report
 first_step finished = at_end
+first_step listed = at_end
 first_step out_of_memory = 0
 
 -- the step that it did not come past
@@ -88,6 +92,7 @@ last_step (refused step) = step
 last_step (failed step part) = step
 last_step unreported = at_report
 last_step finished = at_end
+last_step listed = at_end
 last_step out_of_memory = at_end
 
 -- how many tries of one call fail before a fault at a step is answered: where a listing fails it is tried again so often
@@ -100,6 +105,7 @@ cause_of retries (refused step) = free
 cause_of retries (failed step part) = on part (tries_at retries step)
 cause_of retries unreported = free
 cause_of retries finished = free
+cause_of retries listed = free
 cause_of retries out_of_memory = free
 
 abbrev pub run_cause : {T : Type 0} → ℕ → Result T Outcome → Cause
@@ -135,6 +141,7 @@ status_at other = 16
 
 abbrev pub status_of : Outcome → ℕ
 status_of (Done bits moment) = bits
+status_of (Listed bits) = bits
 status_of other = status_at (ending other)
 
 -- at Done, of its bits and its moment
@@ -142,12 +149,25 @@ abbrev pub IfDone : Outcome → (ℕ → ℕ → Type 0) → Type 0
 IfDone (Done bits moment) holds = holds bits moment
 IfDone other holds = Unit {0}
 
+-- at Done and at Listed, of the bits
+abbrev pub IfReported : Outcome → (ℕ → Type 0) → Type 0
+IfReported (Done bits moment) holds = holds bits
+IfReported (Listed bits) holds = holds bits
+IfReported other holds = Unit {0}
+
+-- the whole report was written
+abbrev pub is_reported : Ending → Bool
+is_reported finished = true
+is_reported listed = true
+is_reported other = false
+
 -- the answer comes at one of these steps: as a refusal of which this holds, or otherwise
 abbrev pub EndsAt : ℕ → ℕ → Type 0 → Ending → Type 0
 EndsAt from to holds (refused step) = (from ≤ step) × (step ≤ to) × holds
 EndsAt from to holds (failed step part) = (from ≤ step) × (step ≤ to)
 EndsAt from to holds unreported = (from ≤ at_report) × (at_report ≤ to)
 EndsAt from to holds finished = (from ≤ at_end) × (at_end ≤ to)
+EndsAt from to holds listed = (from ≤ at_end) × (at_end ≤ to)
 EndsAt from to holds out_of_memory = from ≤ at_end
 
 -- this, or want of memory
@@ -170,9 +190,10 @@ abbrev pub in_file : List ℕ → List ℕ
 in_file [] = []
 in_file (c ∷ cs) = codes " of job file " ++ c ∷ cs
 
--- the line of a refusal or a fault, without its line end; nothing at Done. Each outcome has words of its own.
+-- the line of a refusal or a fault, without its line end; nothing at Done and at Listed. Each outcome has words of its own.
 abbrev pub line_of : Outcome → List ℕ
 line_of (Done bits moment) = []
+line_of (Listed bits) = []
 line_of (Usage file place kind) = codes "ERROR: usage U" ++ decimal kind ++ codes " at word " ++ decimal place ++ in_file file
 line_of (NotYet what) = codes "ERROR: not built yet: " ++ decimal (unbuilt_number what)
 line_of (RootFault side) = codes "ERROR: root fault: " ++ side_name side

@@ -24,6 +24,8 @@ pub enum Outcome {
     /// The trees are the goals of those on which the run began. `bits` are the exit bits, and `moment` is when the
     /// run began, in 100-nanosecond units since 1601.
     Done { bits: u8, moment: u64 },
+    /// Under `/L`: the report says what would be done, and nothing was changed. `bits` are the exit bits of that.
+    Listed { bits: u8 },
     /// The words were refused: of the command line where `file` is empty, and else of that job file; the word's number
     /// from 1, or 0 where no one word is at fault; and the kind of the refusal.
     Usage { file: Text, place: u64, kind: u8 },
@@ -41,23 +43,24 @@ pub enum Outcome {
     RecordFault,
     /// A tree could not be read or changed.
     SiteFault { side: Side },
-    /// The report could not be written. The trees are as after `Done`.
+    /// The report could not be written. The trees are as after `Done`, or under `/L` as after `Listed`.
     SinkFault,
     NoMemory,
 }
 
-/// The exit status: the bits at `Done`, 32 where memory ran out, and else 16.
+/// The exit status: the bits at `Done` and at `Listed`, 32 where memory ran out, and else 16.
 pub fn status(outcome: &Outcome) -> u8
     ensures { result ≡ status_of outcome.now }
 {
     match outcome {
         Outcome::Done { bits, .. } => *bits,
+        Outcome::Listed { bits } => *bits,
         Outcome::NoMemory => 32,
         _ => 16,
     }
 }
 
-/// The line of a refusal or a fault, without a line end; the empty text at `Done`.
+/// The line of a refusal or a fault, without a line end; the empty text at `Done` and at `Listed`.
 pub fn outcome_text(alloc: Global, outcome: &Outcome) -> Result<Text, NoMemory>
     ensures { IfOk result (λ text. text ≡ line_of outcome.now) }
 {
@@ -70,6 +73,7 @@ fn line_of(alloc: Global, outcome: &Outcome) -> Result<String, AllocError>
 {
     match outcome {
         Outcome::Done { .. } => String::from_str(alloc, ""),
+        Outcome::Listed { .. } => String::from_str(alloc, ""),
         Outcome::Usage { file, place, kind } => usage_line(alloc, file, *place, *kind),
         Outcome::NotYet { what } => not_yet_line(alloc, *what),
         Outcome::RootFault { side } => fault_line(alloc, "root", *side),

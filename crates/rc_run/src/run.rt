@@ -7,19 +7,18 @@ ghost use Rattle.rc_copy.specs.Reading.{wants_of};
 ghost use Rattle.rc_filter.specs.Acts.{copies_bytes};
 ghost use Rattle.rc_jobfiles.specs.Ask.{texts};
 ghost use Rattle.rc_plan.specs.Plan.{limit_in, start_in, AreTrees, IsMadeFor};
-ghost use Rattle.rc_report.specs.Report.{bits_of, report_of, totals_of};
 ghost use Rattle.rc_volume.specs.declared.site.Part.{Part};
 ghost use Rattle.rc_volume.specs.Faults.{free, last_count, RoseBy};
 ghost use Rattle.rc_volume.specs.Frames.{Binds, IsBound, Looks};
 ghost use Rattle.rc_volume.specs.Streams.{AppendsFront};
 ghost use Rattle.rc_volume.specs.Waits.{Waits};
-ghost use Rattle.rc_run.specs.Answers.{copying_of, is_empty, site_refusal, start_refusal, unplanned, Answers, AreBitsOf, IsExpected, IsNamed, IsOpened, IsSilentBefore, RunLeaves, Sends};
-ghost use Rattle.rc_run.specs.Goal.{items_at, read_by};
-ghost use Rattle.rc_run.specs.Outcome.{at_copies, at_end, at_limits, at_listing, at_record, at_report, at_roots, cause_of, ending, finished, first_step, last_step, run_cause, Causes, CausesInSink, EndsAt, IfDone, IsOrNoMemory, FailedBy, WaitsFor};
+ghost use Rattle.rc_run.specs.Answers.{bits_by, bits_in, copying_of, is_empty, report_by, reported, site_refusal, start_refusal, unplanned, Answers, IsExpected, IsInMode, IsNamed, IsOpened, IsSilentBefore, RunLeaves, Sends};
+ghost use Rattle.rc_run.specs.Goal.{items_at, read_by, wants_in};
+ghost use Rattle.rc_run.specs.Outcome.{at_copies, at_end, at_limits, at_listing, at_record, at_report, at_roots, cause_of, ending, first_step, is_reported, last_step, run_cause, Causes, CausesInSink, EndsAt, IfDone, IfReported, IsOrNoMemory, FailedBy, WaitsFor};
 ghost use Rattle.rc_run.specs.Under.{ChangesTrees, IsLasting, ReleasesLast};
 ghost use Rattle.rc_run.specs.Words.{asked, binding_of, root_text, IfAccepted, IfRefused};
 
-use crate::trees::change_trees;
+use crate::trees::change_unless_listed;
 use crate::words::read_words;
 use crate::{Outcome, Unbuilt};
 use rc_class::Plan;
@@ -41,7 +40,8 @@ pub struct Ended<S> {
 /// Mirrors the source of a site onto its target, alone: with no threads and no locks. It returns.
 ///
 /// The words are the two roots and switches behind them. Where the site tells its trees, `Done` says that both are now
-/// the goals of the trees at the start, at every key, and that the report and the bits are those of the same decisions.
+/// the goals of the trees at the start, at every key, and that the report and the bits are those of the same decisions;
+/// under `/L` nothing is changed, and `Listed` has the report and the bits of what would be done.
 /// Each fault comes only where the count of its part rose in this call. Words that are refused touch nothing.
 ///
 /// A listing, and what makes, removes and changes entries, is tried again as often as the job says; a copy is not.
@@ -84,13 +84,16 @@ pub fn mirror_alone<S: Site, J: JobStore, K: Sink, C: Clock>(
     // Where an item changes a side, a stop behind all changes leaves of it what reads, and nothing else. The source is
     // changed behind the target alone, and the record is not touched.
     ensures lasting { S.tells ≡ true → IfAccepted (texts words.now) (λ job.
-        at_report ≤ first_step (ending result.outcome) →
+        job.list_only ≡ false → at_report ≤ first_step (ending result.outcome) →
         IsLasting (items_at job (S.view site).told (C.last clock.new))
         (S.view result.site)) }
     ensures in_order { S.tells ≡ true → IfAccepted (texts words.now) (λ job.
         ReleasesLast (copying_of job (C.last clock.new))
         (items_at job (S.view site).told (C.last clock.new))
         (S.view site) (S.view result.site)) }
+    // Under `/L` no changing call is made.
+    ensures listed { S.tells ≡ true → IfAccepted (texts words.now) (λ job.
+        job.list_only ≡ true → (S.view result.site).log ≡ (S.view site).log) }
     ensures opened { S.tells ≡ true → IfAccepted (texts words.now) (λ job.
         IsOpened result.outcome (read_by job (C.last clock.new) (S.view site).told)
         (S.view site).opened (S.view result.site).opened) }
@@ -102,7 +105,8 @@ pub fn mirror_alone<S: Site, J: JobStore, K: Sink, C: Clock>(
 
     // What is reported.
     ensures bits { S.tells ≡ true → IfAccepted (texts words.now) (λ job.
-        IfDone result.outcome (AreBitsOf job (S.view site).told)) }
+        IfReported result.outcome
+        (λ bits. bits ≡ bits_in job (S.view site).told (C.last clock.new))) }
     ensures moment { IfDone result.outcome (λ _ moment. moment ≡ C.last clock.new) }
     ensures sends { S.tells ≡ true → K.tells ≡ true → IfAccepted (texts words.now) (λ job.
         Sends job (C.last clock.new) (S.view site).told result.outcome
@@ -152,9 +156,12 @@ fn run<S: Site, K: Sink, C: Clock>(
     ensures sink_cause { CausesInSink result (K.faults sink.old) (K.faults sink.new) }
     ensures leaves { S.tells ≡ true → RunLeaves job.now (C.last clock.new)
         (S.view site.old).told (S.view site.new).told result }
-    ensures lasting { S.tells ≡ true → at_report ≤ first_step (ending result) →
+    ensures lasting { S.tells ≡ true → job.now.list_only ≡ false →
+        at_report ≤ first_step (ending result) →
         IsLasting (items_at job.now (S.view site.old).told (C.last clock.new))
         (S.view site.new) }
+    ensures listed { S.tells ≡ true → job.now.list_only ≡ true →
+        (S.view site.new).log ≡ (S.view site.old).log }
     ensures in_order { S.tells ≡ true → ReleasesLast (copying_of job.now (C.last clock.new))
         (items_at job.now (S.view site.old).told (C.last clock.new))
         (S.view site.old) (S.view site.new) }
@@ -166,7 +173,8 @@ fn run<S: Site, K: Sink, C: Clock>(
     ensures bound { IsNamed result (binding_of job.now (C.last clock.new))
         (S.view site.old).bound (S.view site.new).bound }
     ensures bits { S.tells ≡ true →
-        IfDone result (AreBitsOf job.now (S.view site.old).told) }
+        IfReported result
+        (λ bits. bits ≡ bits_in job.now (S.view site.old).told (C.last clock.new)) }
     ensures moment { IfDone result (λ _ moment. moment ≡ C.last clock.new) }
     ensures sends { S.tells ≡ true → K.tells ≡ true →
         Sends job.now (C.last clock.new) (S.view site.old).told result
@@ -193,7 +201,7 @@ fn run<S: Site, K: Sink, C: Clock>(
     carry_out(alloc, site, sink, job, &plan, clock)
 }
 
-// Reads the clock, names the roots and looks that there is no record.
+// Reads the clock, names the roots and looks that there is no record; under `/L` the record is not looked at.
 fn start<S: Site, C: Clock>(
     alloc: Global,
     job: &Job,
@@ -207,9 +215,10 @@ fn start<S: Site, C: Clock>(
     ensures named { IfErr result (λ e. at_roots < first_step (ending e) →
         let binding = binding_of job.now (C.last clock.new) in
         (S.view site.new).bound ≡ (S.view site.old).bound ++ binding ∷ []) }
-    ensures no_record { S.tells ≡ true → OnOk result ((S.view site.old).told.notes ≡ []) }
+    ensures no_record { S.tells ≡ true → OnOk result
+        (job.now.list_only ≡ false → (S.view site.old).told.notes ≡ []) }
     ensures ends { IfErr result (λ e. EndsAt at_roots at_record
-        ((e ≡ Outcome.NotYet Unbuilt.Record)
+        ((e ≡ Outcome.NotYet Unbuilt.Record) × (job.now.list_only ≡ false)
         × (S.tells ≡ true → is_empty (S.view site.old).told.notes ≡ false)) (ending e)) }
     ensures moment { IfOk result (λ moment. moment ≡ C.last clock.new) }
     ensures clock { C.tells ≡ true → C.always clock.new ≡ C.always clock.old }
@@ -217,6 +226,7 @@ fn start<S: Site, C: Clock>(
     ensures no_pause { C.paused clock.new ≡ C.paused clock.old }
 {
     match bind(alloc, job, site, clock) {
+        Ok(moment) if job.list_only => Ok(moment),
         Ok(moment) => match site.record_len(alloc) {
             Ok(0) => Ok(moment),
             Ok(_) => Err(Outcome::NotYet {
@@ -309,7 +319,7 @@ fn unplanned(e: PlanErr) -> Outcome
     }
 }
 
-// Does what the plan says, and writes the report.
+// Does what the plan says, unless it is to be listed alone, and writes the report.
 fn carry_out<S: Site, K: Sink, C: Clock>(
     alloc: Global,
     site: &mut S,
@@ -321,7 +331,8 @@ fn carry_out<S: Site, K: Sink, C: Clock>(
     requires plan { S.tells ≡ true → IsPlanOf (start_in job.now (S.view site.old).told) plan.now }
     requires trees { S.tells ≡ true → AreTrees (S.view site.old).told }
     requires made { IsMadeFor job.now plan.now.moment plan.now }
-    requires no_record { S.tells ≡ true → (S.view site.old).told.notes ≡ [] }
+    requires no_record { S.tells ≡ true → job.now.list_only ≡ false →
+        (S.view site.old).told.notes ≡ [] }
 
     ensures frame { ChangesTrees S.tells (cause_of job.now.retries (ending result))
         (S.view site.old) (S.view site.new) }
@@ -331,21 +342,24 @@ fn carry_out<S: Site, K: Sink, C: Clock>(
         FailedBy (job.now.retries + 1) result (S.view site.old) (S.view site.new) }
     ensures leaves { S.tells ≡ true → RunLeaves job.now plan.now.moment
         (S.view site.old).told (S.view site.new).told result }
-    ensures lasting { S.tells ≡ true → at_report ≤ first_step (ending result) →
-        IsLasting plan.now.items (S.view site.new) }
+    ensures lasting { S.tells ≡ true → job.now.list_only ≡ false →
+        at_report ≤ first_step (ending result) → IsLasting plan.now.items (S.view site.new) }
+    ensures listed { S.tells ≡ true → job.now.list_only ≡ true →
+        (S.view site.new).log ≡ (S.view site.old).log }
+    ensures modes { IsInMode job.now result }
     ensures in_order { S.tells ≡ true →
         ReleasesLast (copying_of job.now plan.now.moment) plan.now.items
         (S.view site.old) (S.view site.new) }
-    ensures opened { IsOpened result (wants_of 0 (copies_bytes job.now) plan.now.items)
+    ensures opened { IsOpened result (wants_in job.now plan.now.items)
         (S.view site.old).opened (S.view site.new).opened }
     ensures items { S.tells ≡ true →
         plan.now.items ≡ items_at job.now (S.view site.old).told plan.now.moment }
-    ensures bits { IfDone result (λ bits _. bits ≡ bits_of (totals_of plan.now.items)) }
+    ensures bits { IfReported result (λ bits. bits ≡ bits_by plan.now) }
     ensures moment { IfDone result (λ _ moment. moment ≡ plan.now.moment) }
-    ensures whole { K.tells ≡ true → ending result ≡ finished →
-        K.received sink.new ≡ K.received sink.old ++ report_of plan.now.items }
-    ensures front { K.tells ≡ true →
-        AppendsFront (K.received sink.old) (report_of plan.now.items) (K.received sink.new) }
+    ensures whole { K.tells ≡ true → is_reported (ending result) ≡ true →
+        K.received sink.new ≡ K.received sink.old ++ report_by job.now plan.now }
+    ensures front { K.tells ≡ true → AppendsFront
+        (K.received sink.old) (report_by job.now plan.now) (K.received sink.new) }
     ensures silent { last_step (ending result) < at_report →
         K.received sink.new ≡ K.received sink.old }
     ensures reported { S.tells ≡ true →
@@ -359,30 +373,42 @@ fn carry_out<S: Site, K: Sink, C: Clock>(
     ensures no_pause { job.now.retries ≡ 0 → C.paused clock.new ≡ C.paused clock.old }
 {
     plans_have_the_planned_items();
-    match change_trees(alloc, site, job, plan, clock) {
-        Ok(()) => write_report(alloc, sink, plan),
+    match change_unless_listed(alloc, site, job, plan, clock) {
+        Ok(()) => write_report(alloc, sink, job, plan),
         Err(e) => e,
     }
 }
 
-// Writes the report of a plan.
-fn write_report<K: Sink>(alloc: Global, sink: &mut K, plan: &Plan) -> Outcome
+// Writes the report of a plan: of what was done, or is to be listed.
+fn write_report<K: Sink>(alloc: Global, sink: &mut K, job: &Job, plan: &Plan) -> Outcome
     ensures sink_cause { CausesInSink result (K.faults sink.old) (K.faults sink.new) }
     ensures ends { EndsAt at_report at_end ⊥ (ending result) }
     ensures no_fault { (retries : ℕ) → cause_of retries (ending result) ≡ free }
-    ensures bits { IfDone result (λ bits _. bits ≡ bits_of (totals_of plan.now.items)) }
+    ensures modes { IsInMode job.now result }
+    ensures bits { IfReported result (λ bits. bits ≡ bits_by plan.now) }
     ensures moment { IfDone result (λ _ moment. moment ≡ plan.now.moment) }
-    ensures whole { K.tells ≡ true → ending result ≡ finished →
-        K.received sink.new ≡ K.received sink.old ++ report_of plan.now.items }
-    ensures front { K.tells ≡ true →
-        AppendsFront (K.received sink.old) (report_of plan.now.items) (K.received sink.new) }
+    ensures whole { K.tells ≡ true → is_reported (ending result) ≡ true →
+        K.received sink.new ≡ K.received sink.old ++ report_by job.now plan.now }
+    ensures front { K.tells ≡ true → AppendsFront
+        (K.received sink.old) (report_by job.now plan.now) (K.received sink.new) }
 {
-    match report_to(alloc, sink, plan) {
-        Ok(()) => Outcome::Done {
-            bits: bits(&count_totals(plan)),
-            moment: plan.moment.units(),
-        },
+    match report_to(alloc, sink, job, plan, &[]) {
+        Ok(()) => reported(job, bits(&count_totals(plan, &[])), plan.moment),
         Err(SinkErr::Failed) => Outcome::SinkFault,
         Err(SinkErr::NoMemory) => Outcome::NoMemory,
+    }
+}
+
+// How a run ends whose report was written.
+fn reported(job: &Job, bits: u8, moment: Moment) -> Outcome
+    ensures { result ≡ reported job.now bits moment }
+{
+    if job.list_only {
+        Outcome::Listed { bits }
+    } else {
+        Outcome::Done {
+            bits,
+            moment: moment.units(),
+        }
     }
 }

@@ -4,7 +4,7 @@
 ghost use Rattle.std.specs.Prelude.{◌≡◌, ◌+◌, true, false, IfErr, OnOk};
 ghost use Rattle.rc_class.specs.Items.{are_rising};
 ghost use Rattle.rc_class.specs.Start.{IsPlanOf};
-ghost use Rattle.rc_copy.specs.Copying.{copies_any, readied, AddsWants, CopiesFiles};
+ghost use Rattle.rc_copy.specs.Copying.{copies_any, readied, AddsWants, CopiesFiles, Rests};
 ghost use Rattle.rc_copy.specs.Reading.{wants_of};
 ghost use Rattle.rc_filter.specs.Acts.{copies_bytes};
 ghost use Rattle.rc_finish.specs.Calls.{finish_cause};
@@ -15,6 +15,7 @@ ghost use Rattle.rc_volume.specs.Frames.{ChangesSide};
 ghost use Rattle.rc_volume.specs.Images.{IsOnlyTree};
 ghost use Rattle.rc_volume.specs.Waits.{Waits};
 ghost use Rattle.rc_run.specs.Answers.{copying_of, uncopied, unfinished};
+ghost use Rattle.rc_run.specs.Goal.{wants_in};
 ghost use Rattle.rc_run.specs.Outcome.{at_copies, ending, run_cause, EndsAt, FailedBy};
 ghost use Rattle.rc_run.specs.Under.{AreReleased, AreReleasing, AreUnderWay, ChangesTrees, HaveGoals, IsLasting, IsLastingOn, ReleasesLast};
 
@@ -30,9 +31,59 @@ use rc_job::Job;
 use rc_volume::{Clock, Site};
 use std::alloc::Global;
 
-/// Does what the plan of a job says, to the target and then to the source. No entry of the source is removed or changed
-/// before all that the target gets stands there and is durable.
-pub(crate) fn change_trees<S: Site, C: Clock>(
+/// Does what the plan of a job says, or nothing where it is to be listed alone.
+pub(crate) fn change_unless_listed<S: Site, C: Clock>(
+    alloc: Global,
+    site: &mut S,
+    job: &Job,
+    plan: &Plan,
+    clock: &mut C,
+) -> Result<(), Outcome>
+    requires plan { S.tells ≡ true → IsPlanOf (start_in job.now (S.view site.old).told) plan.now }
+    requires trees { S.tells ≡ true → AreTrees (S.view site.old).told }
+    requires made { IsMadeFor job.now plan.now.moment plan.now }
+
+    ensures frame { ChangesTrees S.tells (run_cause job.now.retries result)
+        (S.view site.old) (S.view site.new) }
+    ensures ends { IfErr result (λ e. EndsAt at_copies at_copies ⊥ (ending e)) }
+    ensures tried { copies_any plan.now.items ≡ false → IfErr result
+        (λ e. FailedBy (job.now.retries + 1) e (S.view site.old) (S.view site.new)) }
+    ensures listed { S.tells ≡ true → job.now.list_only ≡ true →
+        Rests (S.view site.old) (S.view site.new) }
+    ensures goals { S.tells ≡ true → job.now.list_only ≡ false → OnOk result
+        (HaveGoals (copying_of job.now plan.now.moment) plan.now.items
+        (S.view site.old).told (S.view site.new).told.target) }
+    ensures released { S.tells ≡ true → job.now.list_only ≡ false → OnOk result
+        (AreReleased plan.now.items (S.view site.old).told (S.view site.new).told.source) }
+    ensures under_way { S.tells ≡ true →
+        AreUnderWay (copying_of job.now plan.now.moment) plan.now.items
+        (S.view site.old).told (S.view site.new).told.target }
+    ensures releasing { S.tells ≡ true →
+        AreReleasing plan.now.items (S.view site.old).told (S.view site.new).told.source }
+    ensures in_order { S.tells ≡ true →
+        ReleasesLast (copying_of job.now plan.now.moment) plan.now.items
+        (S.view site.old) (S.view site.new) }
+    ensures lasting { S.tells ≡ true → job.now.list_only ≡ false →
+        OnOk result (IsLasting plan.now.items (S.view site.new)) }
+    ensures opened { AddsWants result (wants_in job.now plan.now.items)
+        (S.view site.old).opened (S.view site.new).opened }
+    ensures clock { C.tells ≡ true → C.always clock.new ≡ C.always clock.old }
+    ensures last { C.last clock.new ≡ C.last clock.old }
+    ensures unread { C.reads clock.new ≡ C.reads clock.old }
+    ensures waits { Waits job.now.wait (run_cause job.now.retries result)
+        (S.view site.old).faults (S.view site.new).faults
+        (C.paused clock.old) (C.paused clock.new) }
+    ensures no_pause { job.now.retries ≡ 0 → C.paused clock.new ≡ C.paused clock.old }
+{
+    if job.list_only {
+        return Ok(());
+    }
+    change_trees(alloc, site, job, plan, clock)
+}
+
+// Does what the plan of a job says, to the target and then to the source. No entry of the source is removed or changed
+// before all that the target gets stands there and is durable.
+fn change_trees<S: Site, C: Clock>(
     alloc: Global,
     site: &mut S,
     job: &Job,

@@ -1,7 +1,8 @@
 //! What stands when a call of a site, or of a sink, fails.
 
 use super::{A, NO_FILES, NO_SWITCHES, T0, mirror, shown, site};
-use rc_fixture::{Call, FailingSink, FailingSite, Row, flat_tree};
+use rc_failing::{Call, Failing, FailingSite};
+use rc_fixture::{Row, flat_tree};
 use rc_mem::{MemSink, Tree};
 use rc_run::{outcome_text, status};
 use rc_tree::Attr;
@@ -117,7 +118,8 @@ fn a_fault_of_a_site_leaves_what_was_done(rt: HostRuntime) -> Result<(), Fail> {
             flat_tree(alloc, standing)?,
         )?;
         let mut sink = MemSink::new(alloc);
-        let failing = FailingSite::new(start, *call, *before);
+        let mut failing = FailingSite::new(alloc, start);
+        failing.fail_kind(*call, *before, u64::MAX);
         let ended = mirror(alloc, NO_SWITCHES, failing, &mut sink)?;
         let end = &ended.site.behind;
         assert_eq!(rt;
@@ -149,13 +151,15 @@ fn a_fault_of_a_site_leaves_what_was_done(rt: HostRuntime) -> Result<(), Fail> {
 #[test]
 fn a_fault_of_a_sink_comes_behind_the_copies(rt: HostRuntime) -> Result<(), Fail> {
     let alloc = rt.alloc();
-    for (before, line) in [
-        (0, "ERROR: report fault"),
+    for (number, line) in [
         (1, "ERROR: report fault"),
-        (2, ""),
+        (2, "ERROR: report fault"),
+        (3, "ERROR: report fault"),
+        (4, ""),
     ] {
         let start = site(alloc, flat_tree(alloc, SOURCE)?, Tree::new(alloc))?;
-        let mut sink = FailingSink::new(alloc, before);
+        let mut sink = Failing::new(MemSink::new(alloc));
+        sink.fail_at(number);
         let ended = mirror(alloc, NO_SWITCHES, start, &mut sink)?;
         assert_eq!(rt; outcome_text(alloc, &ended.outcome)?.text(), line);
         assert_eq!(rt;

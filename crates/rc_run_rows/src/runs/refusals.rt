@@ -11,6 +11,8 @@ const ROOTS: &[&str] = &["SRC", "DST"];
 
 const BAD: &[&str] = &["SRC", "DST", "/QUIT"];
 
+const LISTING: &[&str] = &["SRC", "DST", "/L", "/NJH", "/NJS"];
+
 const FILE: &[Row] = &[("a.txt", b"hello", T0, A)];
 
 // Whether a run is refused with this line and changes, reads and reports nothing.
@@ -42,5 +44,26 @@ fn words_come_before_the_record(rt: HostRuntime) -> Result<(), Fail> {
         )?;
         assert!(rt; refuses(alloc, words, start, line)?);
     }
+    Ok(())
+}
+
+#[test]
+fn a_listing_does_not_look_at_the_record(rt: HostRuntime) -> Result<(), Fail> {
+    let alloc = rt.alloc();
+    let start = MemSite::new(
+        alloc,
+        flat_tree(alloc, FILE)?,
+        flat_tree(alloc, NO_FILES)?,
+        b"\xa5".to_vec(alloc)?,
+    )?;
+    let before = site_shown(alloc, &start)?;
+    let mut sink = MemSink::new(alloc);
+    let ended = run(alloc, LISTING, start, &mut sink)?;
+    assert_eq!(rt; status(&ended.outcome), 1);
+    assert_eq!(rt; site_shown(alloc, &ended.site)?.as_str(), before.as_str());
+    assert_eq!(rt;
+        sink.bytes(),
+        b"  New File               5  a.txt\n".as_slice()
+    );
     Ok(())
 }

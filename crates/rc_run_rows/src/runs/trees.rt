@@ -2,7 +2,8 @@
 
 use super::{A, T0, mirror, site, strings};
 use rc_class::Plan;
-use rc_fixture::{Call, FailingSite, plain_props, put_entry};
+use rc_failing::{Call, FailingSite};
+use rc_fixture::{plain_props, put_entry};
 use rc_job::{Job, Patterns, Sub};
 use rc_mem::{FixedClock, MemJobs, MemSink, Tree, WideSite};
 use rc_plan::{PlanErr, make_plan};
@@ -163,7 +164,8 @@ fn a_directory_gets_its_properties_behind_those_below_it(rt: HostRuntime) -> Res
     let alloc = rt.alloc();
     let start = site(alloc, tree(alloc, &["+d", "+d\\e"])?, Tree::new(alloc))?;
     let mut sink = MemSink::new(alloc);
-    let failing = FailingSite::new(start, Call::SetProps, 1);
+    let mut failing = FailingSite::new(alloc, start);
+    failing.fail_kind(Call::SetProps, 1, u64::MAX);
     let ended = mirror(alloc, &["/E", "/DCOPY:T"], failing, &mut sink)?;
     let stands = super::shown(alloc, ended.site.behind.tree(Side::Target))?;
     assert_eq!(rt;
@@ -248,7 +250,8 @@ fn a_failed_call_is_tried_again_as_the_job_says(rt: HostRuntime) -> Result<(), F
         let mut jobs = MemJobs::new(alloc);
         let mut sink = MemSink::new(alloc);
         let mut clock = FixedClock::new(T0);
-        let failing = FailingSite::failing_times(start, *call, 0, *times);
+        let mut failing = FailingSite::new(alloc, start);
+        failing.fail_kind(*call, 0, *times);
         let ended = mirror_alone(
             alloc,
             words.as_slice(),

@@ -4,7 +4,7 @@ use Rattle.rc_mem.specs.declared.clock.FixedClock.{FixedClock}
 use Rattle.rc_mem.specs.MemSite.{told_by}
 use Rattle.rc_jobfiles.specs.Ask.{texts}
 use Rattle.rc_run.specs.Words.{asked}
-use Rattle.drill.proofs.Drills.{ends_so, never, start_is, told_same}
+use Rattle.drill.proofs.Drills.{ends_so, mode_of, never, start_is, told_same}
 use Rattle.drill.proofs.run.mirror_file.Goals as goal
 
 pub new-clock-requires : goal.new-clock-requires
@@ -26,6 +26,7 @@ returns-in-Ok c =
       leaves = c.mirror_alone-ended.ensures.leaves refl;
       sends = c.mirror_alone-ended.ensures.sends refl refl;
       reported = c.mirror_alone-ended.ensures.reported refl;
+      mode = mode_of (asked words) _ _ _ c.mirror_alone-ended.result.outcome c.mirror_alone-ended.ensures.answers;
       bits = c.mirror_alone-ended.ensures.bits refl;
       begun = c.mirror_alone-ended.ensures.moment;
       silent = c.mirror_alone-ended.ensures.silent;

@@ -1,12 +1,16 @@
 use Rattle.std.proofs.Common.{[], codes, refl, arith}
 use Rattle.std.specs.Str.{chars}
-use Rattle.rc_run.specs.declared.outcome.Outcome.TheVariants.{Done, NotYet, RootFault, ListFault, TooMany, RecordFault, SiteFault, SinkFault, NoMemory}
+use Rattle.rc_run.specs.declared.outcome.Outcome.TheVariants.{Done, Listed, NotYet, RootFault, ListFault, TooMany, RecordFault, SiteFault, SinkFault, NoMemory}
 use Rattle.rc_run.proofs.OutcomeLemmas.{chars_made, not_yet_chars, root_chars, list_chars, site_chars, too_many_chars}
 use Rattle.rc_run.proofs.outcome.line_of.Goals as goal
 
 pub returns-in-Done : goal.returns-in-Done
 unfolding chars
 returns-in-Done c = chars_made c.from_str.result [] c.args.outcome.now (Done c.in-Done.bits c.in-Done.moment) c.in-Done.is refl c.from_str.ensures.ok
+
+pub returns-in-Listed : goal.returns-in-Listed
+unfolding chars
+returns-in-Listed c = chars_made c.from_str-in-Listed.result [] c.args.outcome.now (Listed c.in-Listed.bits) c.in-Listed.is refl c.from_str-in-Listed.ensures.ok
 
 pub returns-in-NotYet : goal.returns-in-NotYet
 returns-in-NotYet c = chars_made c.not_yet_line.result _ c.args.outcome.now (NotYet c.in-NotYet.what) c.in-NotYet.is (not_yet_chars c.in-NotYet.what) c.not_yet_line.ensures

@@ -8,20 +8,23 @@ use Rattle.rc_run.proofs.run.run.Goals as goal
 
 pub returns-clause-sends : goal.returns-clause-sends
 returns-clause-sends g c = λ tells sink_tells.
-    sends_so c.args.job.now _ _ _ _ c.in-Ok-plan.plan.items c.carry_out.result _ _
+    sends_so c.args.job.now c.in-Ok-plan.plan _ _ _ c.carry_out.result _ _
     (c.carry_out.ensures.items tells) (c.in-Ok-plan.ensures.frame.told tells ∙ c.in-Ok.ensures.frame.told tells) (c.in-Ok-plan.ensures.made.moment ∙ c.in-Ok.ensures.moment ∙ sym (c.carry_out.ensures.last ∙ c.in-Ok-plan.ensures.last))
     (c.carry_out.ensures.whole sink_tells) (c.carry_out.ensures.front sink_tells)
 
 pub returns-clause-lasting : goal.returns-clause-lasting
-returns-clause-lasting g c = λ tells behind.
+returns-clause-lasting g c = λ tells carried behind.
     lasting_so c.args.job.now c.in-Ok-plan.plan.items _ _ _ _ (g.S.Site.view c.carry_out.new.site) (c.carry_out.ensures.items tells)
-    (c.in-Ok-plan.ensures.frame.told tells ∙ c.in-Ok.ensures.frame.told tells) (c.in-Ok-plan.ensures.made.moment ∙ c.in-Ok.ensures.moment ∙ sym (c.carry_out.ensures.last ∙ c.in-Ok-plan.ensures.last)) (c.carry_out.ensures.lasting tells behind)
+    (c.in-Ok-plan.ensures.frame.told tells ∙ c.in-Ok.ensures.frame.told tells) (c.in-Ok-plan.ensures.made.moment ∙ c.in-Ok.ensures.moment ∙ sym (c.carry_out.ensures.last ∙ c.in-Ok-plan.ensures.last)) (c.carry_out.ensures.lasting tells carried behind)
 
 pub returns-clause-in_order : goal.returns-clause-in_order
 returns-clause-in_order g c = λ tells.
     in_order_so c.args.job.now c.in-Ok-plan.plan.items (g.S.Site.view c.plan.new.site) (g.S.Site.view c.args.site.now) (g.S.Site.view c.carry_out.new.site) _ _ (c.carry_out.ensures.items tells)
     (c.in-Ok-plan.ensures.frame.told tells ∙ c.in-Ok.ensures.frame.told tells) (c.in-Ok-plan.ensures.frame.log tells ∙ c.in-Ok.ensures.frame.log tells)
     (c.in-Ok-plan.ensures.made.moment ∙ c.in-Ok.ensures.moment ∙ sym (c.carry_out.ensures.last ∙ c.in-Ok-plan.ensures.last)) (c.carry_out.ensures.in_order tells)
+
+pub returns-clause-listed : goal.returns-clause-listed
+returns-clause-listed g c = λ tells lists. c.carry_out.ensures.listed tells lists ∙ c.in-Ok-plan.ensures.frame.log tells ∙ c.in-Ok.ensures.frame.log tells
 
 pub returns-in-Err-clause-waits : goal.returns-in-Err-clause-waits
 returns-in-Err-clause-waits g c =
