@@ -1,6 +1,6 @@
 //! Making a tree key by key from two others, as a stop may leave it.
 
-ghost use Rattle.std.specs.Prelude.{◌≡◌, ◌≤◌, ◌+◌, ◌*◌, ◌/◌, ◌%◌, ℕ, true, None, List, [], ◌∷◌, IfOk, IfSome, OnOk};
+ghost use Rattle.std.specs.Prelude.{◌≡◌, ◌≤◌, ◌%◌, ℕ, true, None, List, [], ◌∷◌, IfOk, IfSome, OnOk};
 ghost use Rattle.std.specs.BTreeMap as btree;
 ghost use Rattle.std.specs.BTreeMap.{IsOrdered};
 ghost use Rattle.std.specs.Map.{keys_of};
@@ -10,8 +10,9 @@ ghost use Rattle.rc_tree.specs.Path.{key_cmp};
 ghost use Rattle.rc_tree.specs.Tree.{IsTree};
 ghost use Rattle.rc_stop.specs.Grown.{grown_by, keys_held, odd_in, picked_from};
 ghost use Rattle.rc_stop.specs.KeptSite.{gathered, keys_on, same_side};
-ghost use Rattle.rc_stop.specs.Stops.{IsPicked, draws, draws_odd, is_odd, next_state, state_behind};
+ghost use Rattle.rc_stop.specs.Stops.{IsPicked, draws, draws_odd, is_odd, state_behind};
 
+use crate::drawing::{drawn, next_state};
 use crate::kept::Touched;
 use rc_mem::Tree;
 use rc_tree::{Key, NoMemory};
@@ -139,18 +140,11 @@ fn draw_all(alloc: Global, state: u64, touched: BTreeMap<Key, ()>) -> Result<Dra
     Ok(Drawn { odd, state })
 }
 
-// The state that comes behind this one.
-pub(crate) fn next_state(state: u64) -> u64
-    ensures { result ≡ next_state state }
-{
-    ((6364136223846793005 * state as u128 + 1442695040888963407) % 18446744073709551616) as u64
-}
-
 // Whether what is drawn in this state is odd.
 pub(crate) fn is_odd(state: u64) -> bool
     ensures { result ≡ is_odd state }
 {
-    state / 4294967296 % 2 == 1
+    drawn(state) % 2 == 1
 }
 
 // Adds the keys of a tree that are not there, as even ones.

@@ -12,7 +12,8 @@ ghost use Rattle.rc_mem.specs.Logged.{notes_call_of};
 ghost use Rattle.rc_mem.specs.MemSite.{IsFreshSite, seen_by, told_by};
 ghost use Rattle.rc_stop.specs.Stops.{IsStopImage, notes_left, record_left, side_left, state_behind};
 
-use crate::image::{Picked, copy_tree, is_odd, next_state, pick_tree};
+use crate::drawing::{drawn, next_state};
+use crate::image::{Picked, copy_tree, is_odd, pick_tree};
 use rc_mem::{Logged, MemReader, MemSite, MemTally, NotesCall, Tree};
 use rc_tree::{Entry, Name, NoMemory, Path, Props, Scan};
 use rc_volume::{BindErr, Side, Site, SiteErr, Want};
@@ -220,7 +221,7 @@ fn draw_notes(
         &mut bytes,
         &synced.calls,
         limit as u64,
-        (state / 4294967296 % 256) as u8,
+        (drawn(state) % 256) as u8,
     );
     Ok(bytes)
 }

@@ -4,11 +4,13 @@
 //! memory will do, nothing is paid for stops.
 #![tactic(auto)]
 
+mod drawing;
 mod image;
 mod kept;
 mod laws;
 mod stop;
 
+pub use drawing::{drawn, next_state};
 pub use kept::KeptSite;
 pub use laws::{what_is_picked_may_be_left, what_is_spoiled_may_be_left};
 pub use stop::StopSite;
