@@ -1,2 +1,6 @@
-pub mod Drills
-pub mod Streams
+mod Drills
+mod Ends
+mod Failures
+mod ReadTexts
+mod Streams
+mod WrittenTexts

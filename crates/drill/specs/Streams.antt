@@ -13,11 +13,11 @@ has_failed (Ok value) = false
 has_failed (Err e) = true
 
 -- the status of a drill of some text into some output; and 16 where the output's end failed, which raises its count
-pub record DrillsStreams (input_failed : Type 0) (before now : ℕ) (words : List (List ℕ)) (status : ℕ) : Type 0 where
+pub record DrillsStreams (input_failed : Type 0) (before now : ℕ) (args : List (List ℕ)) (status : ℕ) : Type 0 where
   pub text : List ℕ
   pub old : List ℕ
   pub new : List ℕ
   pub drilled : ℕ
   pub at_end : ℕ
-  pub drills : Drills input_failed (RoseBy 1 before at_end) words text old new drilled
+  pub drills : Drills input_failed (RoseBy 1 before at_end) args text old new drilled
   pub ended : ((status ≡ drilled) × (now ≡ at_end)) ⊎ (RoseBy 1 at_end now × (status ≡ 16))

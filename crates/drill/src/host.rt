@@ -3,7 +3,7 @@
 ghost use Rattle.std.specs.Prelude.{◌≡◌, ◌≢◌, ◌<◌, ◌≤◌, IfOk, IfErr};
 ghost use Rattle.std.specs.IoError.{error_kind};
 ghost use Rattle.rc_volume.specs.Faults.{RoseBy};
-ghost use Rattle.rc_jobfiles.specs.Ask.{texts};
+ghost use Rattle.rc_drillwords.specs.Asking.{spellings};
 ghost use Rattle.drill.specs.Streams.{DrillsStreams};
 
 use crate::adapters::{StdInput, StdOutput};
@@ -21,7 +21,7 @@ pub fn drill_streams<R: Read, W: Write>(
 ) -> u8
     ensures answered { DrillsStreams
         (RoseBy 1 input.old.failures input.new.failures) out.old.failures out.new.failures
-        (texts words.now) result }
+        (spellings words.now) result }
     ensures input_counts { input.old.failures ≤ input.new.failures }
     ensures output_counts { out.old.failures ≤ out.new.failures }
     ensures output_fault { out.old.failures < out.new.failures → result ≡ 16 }

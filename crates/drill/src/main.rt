@@ -1,9 +1,14 @@
 //! `drill SOURCE TARGET` reads a site text from standard input, mirrors the site in memory, and prints the report, the
-//! exit status and the site text of the end.
+//! exit status and the site text of the end. With `/GEN:n` the site is generated and the digest of its text printed;
+//! `/FAIL:part:n` and `/FAILREAD:path:times` make calls and reads of the site fail.
 #![tactic(auto)]
 
 mod adapters;
+mod begin;
+mod digest;
 mod host;
+mod mirror;
+mod output;
 mod run;
 
 use adapters::{StdInput, StdOutput};

@@ -1,6 +1,6 @@
 -- What is written behind what stands there.
 use Rattle.std.proofs.Common.{◌≡◌, ℕ, ◌+◌, ◌<◌, Bool, true, false, cond, eqb, List, [], ◌∷◌, ◌++◌, length, get_or, take, Result, Ok, Err, refl, sym, ap, ◌∙◌, append_assoc, arith}
-use Rattle.std.specs.Prelude.{OnOk}
+use Rattle.std.specs.Prelude.{OnOk, codes}
 use Rattle.std.proofs.lemmas.Bool.{eqb-true, eqb-false}
 use Rattle.std.proofs.lemmas.List.{append-nil, flat_map_more, length-append, take_more}
 use Rattle.std.proofs.lemmas.List.Concat.{flat_map-cons}
@@ -10,7 +10,7 @@ use Rattle.std.specs.List.{flat_map, join_with_byte}
 use Rattle.std.specs.Str.{encode_utf8_all}
 use Rattle.rc_tree.specs.Tree.{Node}
 use Rattle.hex.specs.Hex.{encode_lower, encode_with}
-use Rattle.rc_sitetext.specs.SiteText.{attr_text, entry_line, hex_text, kind_text, marked, or_dash, path_text, props_fields}
+use Rattle.rc_sitetext.specs.SiteText.{JobText, attr_text, entry_line, hex_text, job_line, kind_text, marked, or_dash, path_text, props_fields}
 use Rattle.rc_sitetext.specs.Writing.{last_text}
 use Rattle.rc_sitetext.proofs.LineTexts.{line_is}
 
@@ -100,3 +100,15 @@ entry_put old l1 l2 l3 l4 l5 l6 path node e1 e2 e3 e4 e5 e6 =
     e6 ∙ ap (λ (t : List ℕ). t ++ 10 ∷ []) (e5 ∙ ap (λ (t : List ℕ). t ++ last_text node.kind node.bytes) (e4 ∙ ap (λ (t : List ℕ). t ++ join_with_byte 9 (props_fields p)) (e3 ∙ ap (λ (t : List ℕ). t ++ 9 ∷ []) (e2 ∙ ap (λ (t : List ℕ). t ++ path_text path) e1))))
     ∙ pieces old (kind_text node.kind) (path_text path) (attr_text p.attr) (decimal p.created) (decimal p.written) (hex_text p.access) (hex_text p.owner) (hex_text p.audit) (last_text node.kind node.bytes)
     ∙ ap (λ (t : List ℕ). old ++ (t ++ 10 ∷ [])) (sym (line_is path node))
+
+job_pieces : (old name bytes : List ℕ) → (((((old ++ codes "JOB\t") ++ name) ++ 9 ∷ []) ++ bytes) ++ codes "\n") ≡ old ++ (codes "JOB\t" ++ (name ++ 9 ∷ (bytes ++ codes "\n")))
+job_pieces old name bytes = simp append_assoc
+
+-- what is written of a job file, one after the other
+pub job_put : (old l1 l2 l3 l4 l5 name : List ℕ) (job : JobText) → l1 ≡ old ++ codes "JOB\t" → l2 ≡ l1 ++ name → name ≡ encode_utf8_all job.0 → l3 ≡ l2 ++ 9 ∷ [] → l4 ≡ l3 ++ hex_text job.1 → l5 ≡ l4 ++ codes "\n" → l5 ≡ old ++ job_line job
+job_put old l1 l2 l3 l4 l5 name job e1 e2 is e3 e4 e5 =
+    e5 ∙ ap (λ (t : List ℕ). t ++ codes "\n") (e4 ∙ ap (λ (t : List ℕ). t ++ hex_text job.1) (e3 ∙ ap (λ (t : List ℕ). t ++ 9 ∷ []) (e2 ∙ ap (λ (t : List ℕ). t ++ name) e1 ∙ ap (λ (t : List ℕ). (old ++ codes "JOB\t") ++ t) is)))
+    ∙ job_pieces old (encode_utf8_all job.0) (hex_text job.1)
+
+pub four_parts : (a b c d : List ℕ) → a ++ b ++ c ++ d ≡ a ++ (b ++ (c ++ d))
+four_parts a b c d = simp append_assoc

@@ -3,7 +3,7 @@ use Rattle.std.proofs.Common.{◌≡◌, ◌≢◌, ℕ, zero, suc, ◌<◌, ◌
 use Rattle.std.specs.Prelude.{codes}
 use Rattle.std.specs.List.{list_all}
 use Rattle.std.specs.Str.{bytes_eq}
-use Rattle.std.proofs.lemmas.Bool.{cases_Bool, ne_eqb, eqb-false, eqb-true, ltb-true, ltb-false, lt-ltb, le-ltb, and_parts, or_parts, not-true, not-false}
+use Rattle.std.proofs.lemmas.Bool.{cases_Bool, ne_eqb, eqb-false, eqb-true, ltb-true, lt-ltb, and_parts, or_parts, not-true, not-false}
 use Rattle.std.proofs.lemmas.Bool.Decides.{eqb_tells}
 use Rattle.std.proofs.lemmas.List.{append-nil, length-replicate}
 use Rattle.std.proofs.lemmas.Slice.Eq.{bytes_eq-Decides}
@@ -11,8 +11,8 @@ use Rattle.hex.specs.Hex.{IsBytes, encode_lower, encode_with, lower_digits}
 use Rattle.hex.proofs.HexLemmas.{length-encode_with}
 use Rattle.rc_tree.specs.declared.attr.Attr.{Attr}
 use Rattle.rc_tree.specs.Attr.{no_attr}
-use Rattle.rc_sitetext.specs.SiteText.{or_dash, letters, flags_of, marked, attr_text, hex_text, is_repeated, content_text, IsSecurity}
-use Rattle.rc_sitetext.specs.Reading.{letter_at, flags_at, attr_with, attr_at, bytes_at, security_at, repeated_byte, repeated_at, plain_at, starred_at, content_at}
+use Rattle.rc_sitetext.specs.SiteText.{or_dash, letters, flags_of, marked, attr_text, hex_text, is_repeated, content_text}
+use Rattle.rc_sitetext.specs.Reading.{letter_at, flags_at, attr_with, attr_at, bytes_at, hex_at, repeated_byte, repeated_at, plain_at, starred_at, content_at}
 use Rattle.rc_sitetext.proofs.Appends.{or_dash_some, hex_some}
 use Rattle.rc_sitetext.proofs.FieldValues.{attr_read}
 use Rattle.rc_sitetext.proofs.HexLaws.{bytes_take, bytes_again, IsPrintable-hex}
@@ -163,7 +163,7 @@ attr_field =
       utf8 = λ a fits. IsUtf8-printable 45 (attr_text a) (attr_printable a);
     }
 
--- Security strings
+-- Byte strings
 
 hex_printable : (bytes : List ℕ) → IsBytes bytes → IsPrintable 45 (hex_text bytes)
 hex_printable bytes fits = or_dash_printable 45 (encode_lower bytes) (omega arith) (weaken 45 48 (encode_lower bytes) (omega arith) (IsPrintable-hex bytes fits))
@@ -172,39 +172,38 @@ not_dash : (text : List ℕ) → 0 < length text → IsPrintable 48 text → byt
 not_dash [] some h = absurd (omega arith)
 not_dash (c ∷ text) some h = dash_not c text (omega (arith, h.0.0))
 
-security_takes : (text bytes : List ℕ) → security_at text ≡ Some bytes → (text ≡ hex_text bytes) × IsSecurity bytes
-unfolding security_at encode_with
-security_takes text bytes e =
+hex_takes : (text bytes : List ℕ) → hex_at text ≡ Some bytes → (text ≡ hex_text bytes) × IsBytes bytes
+unfolding hex_at encode_with
+hex_takes text bytes e =
     elim (cases_Bool (bytes_eq text (codes "-"))) [
       | inl so ↦
           let none : [] ≡ bytes = some_is [] bytes (rw so at e) in
-          subst (λ (b : List ℕ). (text ≡ hex_text b) × IsSecurity b) none (same_text text (codes "-") so, (λ i. omega arith, omega arith))
+          subst (λ (b : List ℕ). (text ≡ hex_text b) × IsBytes b) none (same_text text (codes "-") so, λ i. omega arith)
       | inr other ↦
-          let p = bind_some (bytes_at text) (λ b. cond (eqb (length b) 0 || ltb 65535 (length b)) None (Some b)) bytes (rw other at e) in
-          let q = unless_some (eqb (length p.0) 0 || ltb 65535 (length p.0)) (Some p.0) bytes p.2 in
-          let parts = or_parts (eqb (length p.0) 0) (ltb 65535 (length p.0)) q.0 in
+          let p = bind_some (bytes_at text) (λ b. cond (eqb (length b) 0) None (Some b)) bytes (rw other at e) in
+          let q = unless_some (eqb (length p.0) 0) (Some p.0) bytes p.2 in
           let t = bytes_take text p.0 p.1 in
-          subst (λ (b : List ℕ). (text ≡ hex_text b) × IsSecurity b) (some_is p.0 bytes q.1)
-          (t.0 ∙ sym (hex_some p.0 parts.0), (t.1, ltb-false 65535 (length p.0) parts.1))
+          subst (λ (b : List ℕ). (text ≡ hex_text b) × IsBytes b) (some_is p.0 bytes q.1)
+          (t.0 ∙ sym (hex_some p.0 q.0), t.1)
     ]
 
 some_length : (b : ℕ) (bytes : List ℕ) → eqb (length (b ∷ bytes)) 0 ≡ false
 some_length b bytes = ne_eqb (length (b ∷ bytes)) 0 (λ e. omega (arith, e))
 
-security_again : (bytes : List ℕ) → IsSecurity bytes → security_at (hex_text bytes) ≡ Some bytes
-unfolding security_at encode_with
-security_again [] fits = refl
-security_again (b ∷ bytes) fits =
-    let dash = not_dash (encode_lower (b ∷ bytes)) (omega (arith, length-encode_with lower_digits (b ∷ bytes))) (IsPrintable-hex (b ∷ bytes) fits.0) in
-    rw (dash, bytes_again (b ∷ bytes) fits.0, some_length b bytes, le-ltb 65535 (length (b ∷ bytes)) fits.1) refl
+hex_again : (bytes : List ℕ) → IsBytes bytes → hex_at (hex_text bytes) ≡ Some bytes
+unfolding hex_at encode_with
+hex_again [] fits = refl
+hex_again (b ∷ bytes) fits =
+    let dash = not_dash (encode_lower (b ∷ bytes)) (omega (arith, length-encode_with lower_digits (b ∷ bytes))) (IsPrintable-hex (b ∷ bytes) fits) in
+    rw (dash, bytes_again (b ∷ bytes) fits, some_length b bytes) refl
 
-pub security_field : IsField security_at hex_text IsSecurity
-security_field =
+pub hex_field : IsField hex_at hex_text IsBytes
+hex_field =
     record {
-      takes = security_takes;
-      again = security_again;
-      plain = λ bytes fits. IsPlain-printable 45 (hex_text bytes) (omega arith) (hex_printable bytes fits.0);
-      utf8 = λ bytes fits. IsUtf8-printable 45 (hex_text bytes) (hex_printable bytes fits.0);
+      takes = hex_takes;
+      again = hex_again;
+      plain = λ bytes fits. IsPlain-printable 45 (hex_text bytes) (omega arith) (hex_printable bytes fits);
+      utf8 = λ bytes fits. IsUtf8-printable 45 (hex_text bytes) (hex_printable bytes fits);
     }
 
 -- Contents

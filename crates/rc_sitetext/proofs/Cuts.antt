@@ -2,9 +2,10 @@
 use Rattle.std.proofs.Common.{◌≡◌, ◌≢◌, ℕ, suc, ◌<◌, true, false, eqb, List, [], ◌∷◌, ◌++◌, length, get_or, Some, None, refl, ap, arith, inl, inr}
 use Rattle.std.proofs.lemmas.Bool.Decides.{eqb_tells}
 use Rattle.std.proofs.lemmas.List.Elements.{All-from_get_or}
-use Rattle.std.proofs.lemmas.List.Splits.{slice_split_at, slice_split_none, length-slice_split}
+use Rattle.std.proofs.lemmas.List.Splits.{length-slice_split}
 use Rattle.std.specs.List.{All}
-use Rattle.rc_sitetext.specs.Reading.{cut, letter_at, lines_in, line_at, starred_at, plain_at}
+use Rattle.rc_sitetext.specs.Faults.{lines_in}
+use Rattle.rc_sitetext.specs.Reading.{cut, letter_at, starred_at, plain_at}
 
 -- a byte that differs fails the test
 apart : (b c : ℕ) → b ≢ c → eqb b c ≡ false
@@ -38,15 +39,6 @@ pub some_lines : (text : List ℕ) → eqb (length (lines_in text)) 0 ≡ false
 some_lines text =
     let ne : length (lines_in text) ≢ 0 = λ e. omega (arith, length-slice_split (λ b. eqb b 10) text) in
     apart (length (lines_in text)) 0 ne
-
--- the next line is what comes before the first line end
-pub line_first : (front rest : List ℕ) → ((i : ℕ) → i < length front → get_or front i 0 ≢ 10) → line_at (lines_in (front ++ 10 ∷ rest)) ≡ Some (front, lines_in rest)
-line_first front rest none =
-    rw (slice_split_at (λ b. eqb b 10) front 10 rest (none_ends front none) refl) (rw (some_lines rest) refl)
-
--- a text without a line end has no line
-pub line_none : (text : List ℕ) → ((i : ℕ) → i < length text → get_or text i 0 ≢ 10) → line_at (lines_in text) ≡ None
-line_none text none = rw (slice_split_none (λ b. eqb b 10) text (none_ends text none)) refl
 
 -- another letter comes next, or none
 pub letter_none : (c : ℕ) (text : List ℕ) → ((rest : List ℕ) → text ≢ c ∷ rest) → letter_at c text ≡ (false, text)

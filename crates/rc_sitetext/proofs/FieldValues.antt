@@ -1,21 +1,22 @@
 -- What the readers of values answer, step by step.
 use Rattle.std.proofs.Common.{◌≡◌, ◌≢◌, ℕ, ◌^◌, ◌<◌, ◌≤◌, Bool, true, false, not, ◌&&◌, cond, eqb, ltb, leb, List, [], ◌∷◌, length, get_or, Option, Some, None, Result, Ok, Err, refl, sym, ap, ◌∙◌, arith}
 use Rattle.std.specs.Prelude.{chars, codes}
-use Rattle.std.specs.FinMap.{empty, entries, entries_sorted, insert, len-empty, len-entries}
-use Rattle.std.specs.Str.{bytes_eq, all_ascii_digits, encode_utf8_all, IsUtf8}
+use Rattle.std.specs.Cmp.{IsTotalOrder}
+use Rattle.std.specs.declared.cmp.Ordering.{Ordering}
+use Rattle.std.specs.FinMap.{FinMap, empty, entries, entries_sorted, insert, len-empty, len-entries}
+use Rattle.std.specs.Char.{is_ascii_digit}
+use Rattle.std.specs.List.{list_all}
+use Rattle.std.specs.Str.{bytes_eq, all_ascii_digits, encode_utf8_all, is_utf8, IsUtf8}
 use Rattle.std.proofs.lemmas.Slice.Eq.{bytes_eq-Decides}
-use Rattle.std.proofs.lemmas.Str.{encodes-chars}
+use Rattle.std.proofs.lemmas.Str.{encodes-chars, is_utf8-from_IsUtf8}
 use Rattle.std.specs.Str.Parse.{ParsesUnsigned, digits_value}
 use Rattle.std.specs.Result.{OkIff}
-use Rattle.std.proofs.lemmas.Bool.{le-leb, leb-true, lt-ltb, ltb-true, or_parts, and_parts, eqb-false, ne_eqb}
+use Rattle.std.proofs.lemmas.Bool.{le-leb, leb-true, lt-ltb, ltb-true, or_parts, and_parts, eqb-false, eqb-true, ne_eqb}
 use Rattle.std.proofs.lemmas.Str.Parse.{IsNumeralModel, numerals_by_value, tells_all_ascii_digits, parse_plain}
-use Rattle.rc_tree.specs.Path.{key_cmp}
-use Rattle.rc_tree.specs.Tree.{Node, Tree}
-use Rattle.rc_tree.proofs.Keys.{key_cmp-total}
 use Rattle.rc_sitetext.proofs.Cuts.{starred_none}
 use Rattle.rc_sitetext.proofs.Rising.{above_none, above_some, entries-insert_last, last_of-push}
 use Rattle.rc_sitetext.specs.SiteText.{letters}
-use Rattle.rc_sitetext.specs.Reading.{number_at, is_numeral, is_padded, letter_at, flags_at, attr_at, attr_with, content_at, plain_at, is_above, is_behind, last_key, last_of}
+use Rattle.rc_sitetext.specs.Reading.{number_at, is_numeral, is_padded, letter_at, flags_at, attr_at, attr_with, job_name_at, content_at, plain_at, is_above, is_behind, last_key, last_of}
 
 pub numerals : IsNumeralModel (λ ds. all_ascii_digits ds ≡ true) (digits_value 10)
 numerals = numerals_by_value (λ ds. all_ascii_digits ds ≡ true) tells_all_ascii_digits
@@ -92,26 +93,48 @@ pub attr_read : (text end : List ℕ) (flags : List Bool) → bytes_eq text (cod
 unfolding attr_at
 attr_read text end flags dash some taken = rw (dash, some, taken) refl
 
+-- each byte is a digit
+pub all_digits : (text : List ℕ) → list_all is_ascii_digit text ≡ all_ascii_digits text
+all_digits [] = refl
+all_digits (c ∷ text) = ap (λ (b : Bool). is_ascii_digit c && b) (all_digits text)
+
+-- a name of at least one character
+pub name_read : (text : List ℕ) → IsUtf8 text → eqb (length text) 0 ≡ false → job_name_at text ≡ Some (chars text)
+unfolding job_name_at
+name_read text utf8 some =
+    let ne = eqb-false (length text) 0 some in
+    rw (is_utf8-from_IsUtf8 text utf8, lt-ltb 0 (length text) (omega (arith, ne))) refl
+
+pub name_none : (text : List ℕ) → eqb (length text) 0 ≡ true → job_name_at text ≡ None
+unfolding job_name_at
+name_none [] none = none_of (is_utf8 [])
+  where
+    none_of : (b : Bool) → cond (b && false) (Some (chars [])) None ≡ None
+    none_of true = refl
+    none_of false = refl
+name_none (c ∷ text) none = absurd (let e = eqb-true (length (c ∷ text)) 0 none in omega (arith, e))
+
 -- what begins with no `*` is written out
 pub content_plain : (size : ℕ) (text : List ℕ) → size ≢ 0 → ((rest : List ℕ) → text ≢ 42 ∷ rest) → content_at size text ≡ plain_at size text
 unfolding content_at
 content_plain size text some other = rw (ne_eqb size 0 some) (starred_none size text other)
 
--- a key is above all of a tree where it comes behind the last one
-pub is_above_behind : (tree : Tree) (last : Option (List (List ℕ))) (key : List (List ℕ)) → last_key tree ≡ last → is_above tree key ≡ is_behind last key
-unfolding is_above
-is_above_behind tree None key e = above_none key_cmp key_cmp-total key (entries tree) e
-is_above_behind tree (Some last) key e = above_some key_cmp key_cmp-total key (entries tree) last (entries_sorted tree) e
-
--- a key that was added behind the last one is the last one
-pub last_key_added : (tree : Tree) (key : List (List ℕ)) (node : Node) → is_above tree key ≡ true → last_key (insert tree key node) ≡ Some key
-unfolding is_above
-last_key_added tree key node above =
-    ap last_of (entries-insert_last key_cmp key_cmp-total tree key node above) ∙ last_of-push key_cmp key_cmp-total (entries tree) (key, node)
-
 no_last : {K X : Type 0} (es : List (K × X)) → length es ≡ 0 → last_of es ≡ None
 no_last [] none = refl
 no_last (e ∷ es) none = absurd (omega (arith, none))
 
-pub last_key_empty : last_key empty ≡ None
-last_key_empty = no_last (entries {R = key_cmp} (empty {X = Node})) (sym (len-entries (empty {X = Node} {R = key_cmp})) ∙ len-empty key_cmp Node)
+pub last_key_empty : {K : Type 0} (X : Type 0) (R : K → K → Ordering) → last_key (empty {X = X} {R = R}) ≡ None
+last_key_empty X R = no_last (entries {R = R} (empty {X = X})) (sym (len-entries (empty {X = X} {R = R})) ∙ len-empty R X)
+
+module _ {K X : Type 0} (R : K → K → Ordering) (o : IsTotalOrder R) where
+  -- a key is above all of a map where it comes behind the last one
+  pub is_above_behind : (m : FinMap R X) (last : Option K) (key : K) → last_key m ≡ last → is_above m key ≡ is_behind R last key
+  unfolding is_above
+  is_above_behind m None key e = above_none R o key (entries m) e
+  is_above_behind m (Some last) key e = above_some R o key (entries m) last (entries_sorted m) e
+
+  -- a key that was added behind the last one is the last one
+  pub last_key_added : (m : FinMap R X) (key : K) (x : X) → is_above m key ≡ true → last_key (insert m key x) ≡ Some key
+  unfolding is_above
+  last_key_added m key x above =
+      ap last_of (entries-insert_last R o m key x above) ∙ last_of-push R o (entries m) (key, x)

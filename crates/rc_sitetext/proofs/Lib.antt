@@ -1,10 +1,13 @@
 pub mod Appends
+pub mod Binds
 pub mod ByteSpells
+pub mod Completeness
 pub mod Cuts
 pub mod FieldValues
-pub mod LineLaws
 pub mod HexLaws
-pub mod LineSteps
+pub mod JobLaws
+pub mod LineAgain
+pub mod LineLaws
 pub mod LineTexts
 pub mod PathTexts
 pub mod Plain
@@ -12,6 +15,8 @@ pub mod Printable
 pub mod Rising
 pub mod Sends
 pub mod SiteLaws
+pub mod Soundness
 pub mod Spells
+pub mod Steps
 pub mod TreeLaws
 pub mod Ways

@@ -1,12 +1,11 @@
 -- The fields of a line: what is read is spelled so, and what is spelled so is read.
-use Rattle.std.proofs.Common.{◌≡◌, ◌≢◌, ℕ, zero, suc, ◌<◌, ◌≤◌, Bool, true, false, cond, List, [], ◌∷◌, ◌++◌, length, get_or, Option, Some, None, refl, sym, ap, subst, ◌∙◌, arith, lit<}
-use Rattle.std.specs.Prelude.{codes}
+use Rattle.std.proofs.Common.{◌≡◌, ◌≢◌, ℕ, ◌<◌, ◌≤◌, Bool, true, false, ◌&&◌, cond, leb, List, [], ◌∷◌, ◌++◌, length, get_or, Option, Some, None, refl, sym, ap, subst, ◌∙◌, arith, lit<}
+use Rattle.std.specs.Prelude.{codes, is_none}
 use Rattle.std.specs.Fmt.{decimal}
-use Rattle.std.specs.List.{AllByRecursion}
-use Rattle.std.specs.Str.{bytes_eq, IsUtf8, is_utf8, chars}
-use lib.Utf8.{encode}
+use Rattle.std.specs.Str.{bytes_eq, IsUtf8}
+use Rattle.std.specs.Str.Parse.{digits_value}
+use Rattle.std.proofs.lemmas.Bool.{and_parts, leb-true}
 use Rattle.std.proofs.lemmas.List.{append-nil}
-use Rattle.std.proofs.lemmas.Str.{IsUtf8-append, IsUtf8-from_is_utf8, IsUtf8-nil}
 use Rattle.std.proofs.lemmas.Slice.Eq.{bytes_eq-Decides}
 use Rattle.hex.specs.Hex.{IsBytes}
 use Rattle.rc_tree.specs.declared.attr.Kind.{Kind}
@@ -15,23 +14,29 @@ use Rattle.rc_tree.specs.declared.moment.TheConstants.{GREATEST_MOMENT}
 use Rattle.rc_tree.specs.declared.props.Props.{Props}
 use Rattle.rc_tree.specs.Path.{last_name}
 use Rattle.rc_tree.specs.Tree.{Node}
-use Rattle.rc_sitetext.specs.SiteText.{attr_text, content_text, entry_fields, hex_text, kind_text, path_text, IsSecurity}
-use Rattle.rc_sitetext.specs.Reading.{◌>>=◌, Entry, audit_at, number_at, attr_at, security_at, content_at, entry_at, field_at, kind_of, last_at, path_at, props_at}
+use Rattle.rc_sitetext.specs.SiteText.{attr_text, entry_fields, hex_text, kind_text, path_text, IsSecurity}
+use Rattle.rc_sitetext.specs.Reading.{EntryFields, EntryTexts, EntryValues, LastTexts, attr_at, bytes_of, cut, entry_texts, fields_at, hex_at, is_numeral, is_short, kind_of, last_field, last_texts, number_at, node_of, path_at, value_behind, values_at, values_with}
 use Rattle.rc_sitetext.specs.Writing.{last_text}
-use Rattle.rc_sitetext.proofs.ByteSpells.{Always, attr_field, security_field, content_takes, content_again, content_printable}
-use Rattle.rc_sitetext.proofs.LineTexts.{line_is, props_text}
+use Rattle.rc_sitetext.proofs.ByteSpells.{Always, attr_field, hex_field, content_takes}
+use Rattle.rc_sitetext.proofs.Cuts.{cut_at, cut_none}
+use Rattle.rc_sitetext.proofs.LineTexts.{line_is}
 use Rattle.rc_sitetext.proofs.PathTexts.{IsPathText, path_field}
-use Rattle.rc_sitetext.proofs.Plain.{IsPlain}
-use Rattle.rc_sitetext.proofs.Printable.{IsPlain-printable, IsPrintable-literal, IsUtf8-printable, ascii_utf8}
-use Rattle.rc_sitetext.proofs.Spells.{IsField, some_is, bind_some, field_takes, field_again, UpTo, number_field}
+use Rattle.rc_sitetext.proofs.Plain.{IsPlain, IsPlain-without}
+use Rattle.rc_sitetext.proofs.Printable.{IsPlain-printable, IsPrintable-literal, ascii_utf8}
+use Rattle.rc_sitetext.proofs.Spells.{IsField, some_is, bind_some, if_some, cut_takes, UpTo, number_field}
 
 pub moments : IsField (number_at GREATEST_MOMENT) decimal (UpTo GREATEST_MOMENT)
 moments = number_field GREATEST_MOMENT (lit< tt)
 
-sizes : IsField (number_at 268435456) decimal (UpTo 268435456)
+pub sizes : IsField (number_at 268435456) decimal (UpTo 268435456)
 sizes = number_field 268435456 (lit< tt)
 
-same_text : (a b : List ℕ) → bytes_eq a b ≡ true → a ≡ b
+-- a number that was read is spelled well
+pub number_fits : (greatest : ℕ) (text : List ℕ) (n : ℕ) → number_at greatest text ≡ Some n → is_numeral text ≡ true
+unfolding number_at
+number_fits greatest text n e = (and_parts (is_numeral text) (leb (digits_value 10 text) greatest) (if_some (is_numeral text && leb (digits_value 10 text) greatest) (Some (digits_value 10 text)) n e).0).0
+
+pub same_text : (a b : List ℕ) → bytes_eq a b ≡ true → a ≡ b
 same_text a b is = (bytes_eq-Decides a b).0 is
 
 -- Kinds
@@ -53,7 +58,7 @@ kind_utf8 : (kind : Kind) → IsUtf8 (kind_text kind)
 kind_utf8 File = ascii_utf8 (codes "F") refl
 kind_utf8 Dir = ascii_utf8 (codes "D") refl
 
-kind_field : IsField kind_of kind_text Always
+pub kind_field : IsField kind_of kind_text Always
 kind_field =
     record {
       takes = λ text kind e. (kind_chosen text (bytes_eq text (codes "F")) (bytes_eq text (codes "D")) kind refl refl e, tt);
@@ -62,33 +67,82 @@ kind_field =
       utf8 = λ kind fits. kind_utf8 kind;
     }
 
--- The last security string, and what comes behind it
+-- Cutting
 
--- what is left, behind a tab; a directory has nothing left
-behind : Kind → List ℕ → List ℕ
-behind File rest = 9 ∷ rest
-behind Dir rest = []
+-- no tab is in it
+abbrev pub IsField_text : List ℕ → Type 0
+IsField_text text = (i : ℕ) → i < length text → get_or text i 0 ≢ 9
 
-left : Kind → List ℕ → List ℕ
-left File rest = rest
-left Dir rest = []
+pub no_tab : (text : List ℕ) → IsPlain text → IsField_text text
+no_tab text plain = IsPlain-without text 9 (omega arith) plain
 
-audit_takes : (kind : Kind) (line audit rest : List ℕ) → audit_at kind line ≡ Some (audit, rest) → (line ≡ hex_text audit ++ behind kind rest) × IsSecurity audit
-unfolding audit_at behind
-audit_takes File line audit rest e = field_takes security_at hex_text IsSecurity security_field line audit rest e
-audit_takes Dir line audit rest e =
-    let k = bind_some (security_at line) (λ audit. Some (audit, [])) (audit, rest) e in
-    let t = security_field.takes line k.0 k.1 in
-    let pair : ◌≡◌ {A = List ℕ × List ℕ} (k.0, []) (audit, rest) = some_is (k.0, []) (audit, rest) k.2 in
-    let is : k.0 ≡ audit = ap (λ (p : List ℕ × List ℕ). p.0) pair in
-    (t.0 ∙ ap hex_text is ∙ sym (append-nil (hex_text audit)), subst IsSecurity is t.1)
+pub last_takes : (line text : List ℕ) → last_field line ≡ Some text → line ≡ text
+unfolding last_field
+last_takes line text e = let p = if_some (is_none (cut 9 line)) (Some line) text e in some_is line text p.1
 
-audit_again : (kind : Kind) (audit rest : List ℕ) → IsSecurity audit → audit_at kind (hex_text audit ++ behind kind rest) ≡ Some (audit, left kind rest)
-unfolding audit_at behind left
-audit_again File audit rest fits = field_again security_at hex_text IsSecurity security_field audit rest fits
-audit_again Dir audit rest fits = rw (append-nil (hex_text audit), security_field.again audit fits) refl
+pub last_again : (text : List ℕ) → IsField_text text → last_field text ≡ Some text
+unfolding last_field
+last_again text free = rw (cut_none 9 text free) refl
 
--- Properties
+-- one field behind a first one
+pub behind_takes : (tag line text : List ℕ) → value_behind tag line ≡ Some text → line ≡ tag ++ 9 ∷ text
+unfolding value_behind
+behind_takes tag line text e =
+    let k = bind_some (cut 9 line) _ text e in
+    let q = if_some (bytes_eq k.0.0 tag) (last_field k.0.1) text k.2 in
+    cut_takes 9 line k.0.0 k.0.1 k.1 ∙ ap (λ (t : List ℕ). t ++ 9 ∷ k.0.1) (same_text k.0.0 tag q.0) ∙ ap (λ (t : List ℕ). tag ++ 9 ∷ t) (last_takes k.0.1 text q.1)
+
+pub behind_again : (tag text : List ℕ) → IsField_text tag → IsField_text text → value_behind tag (tag ++ 9 ∷ text) ≡ Some text
+unfolding value_behind
+behind_again tag text no_tag free = rw (cut_at 9 tag text no_tag) (rw ((bytes_eq-Decides tag tag).1 refl) (last_again text free))
+
+-- The texts of an entry's fields
+
+pub last_line : Kind → List ℕ → List ℕ → List ℕ → List ℕ
+last_line File audit size content = audit ++ 9 ∷ (size ++ 9 ∷ content)
+last_line Dir audit size content = audit
+
+last_texts_take : (kind : Kind) (line : List ℕ) (t : LastTexts) → last_texts kind line ≡ Some t → line ≡ last_line kind t.audit t.size t.content
+unfolding last_texts last_line
+last_texts_take File line t e =
+    let k0 = bind_some (cut 9 line) _ t e in
+    let k1 = bind_some (cut 9 k0.0.1) _ t k0.2 in
+    let k2 = bind_some (last_field k1.0.1) _ t k1.2 in
+    let made : LastTexts = record { audit = k0.0.0; size = k1.0.0; content = k2.0 } in
+    subst (λ (x : LastTexts). line ≡ last_line File x.audit x.size x.content) (some_is made t k2.2)
+    (cut_takes 9 line k0.0.0 k0.0.1 k0.1 ∙ ap (λ (x : List ℕ). k0.0.0 ++ 9 ∷ x) (cut_takes 9 k0.0.1 k1.0.0 k1.0.1 k1.1 ∙ ap (λ (x : List ℕ). k1.0.0 ++ 9 ∷ x) (last_takes k1.0.1 k2.0 k2.1)))
+last_texts_take Dir line t e =
+    let k = bind_some (last_field line) _ t e in
+    let made : LastTexts = record { audit = k.0; size = codes "0"; content = codes "-" } in
+    subst (λ (x : LastTexts). line ≡ x.audit) (some_is made t k.2) (last_takes line k.0 k.1)
+
+pub texts_line : EntryTexts → List ℕ
+texts_line t = kind_text t.kind ++ 9 ∷ (t.path ++ 9 ∷ (t.attr ++ 9 ∷ (t.created ++ 9 ∷ (t.written ++ 9 ∷ (t.access ++ 9 ∷ (t.owner ++ 9 ∷ last_line t.kind t.audit t.size t.content))))))
+
+pub texts_take : (line : List ℕ) (t : EntryTexts) → entry_texts line ≡ Some t → line ≡ texts_line t
+unfolding entry_texts texts_line
+texts_take line t e =
+    let k0 = bind_some (cut 9 line) _ t e in
+    let kind = bind_some (kind_of k0.0.0) _ t k0.2 in
+    let k1 = bind_some (cut 9 k0.0.1) _ t kind.2 in
+    let k2 = bind_some (cut 9 k1.0.1) _ t k1.2 in
+    let k3 = bind_some (cut 9 k2.0.1) _ t k2.2 in
+    let k4 = bind_some (cut 9 k3.0.1) _ t k3.2 in
+    let k5 = bind_some (cut 9 k4.0.1) _ t k4.2 in
+    let k6 = bind_some (cut 9 k5.0.1) _ t k5.2 in
+    let last = bind_some (last_texts kind.0 k6.0.1) _ t k6.2 in
+    let made : EntryTexts = record { kind = kind.0; path = k1.0.0; attr = k2.0.0; created = k3.0.0; written = k4.0.0; access = k5.0.0; owner = k6.0.0; audit = last.0.audit; size = last.0.size; content = last.0.content } in
+    subst (λ (x : EntryTexts). line ≡ texts_line x) (some_is made t last.2)
+    (cut_takes 9 line k0.0.0 k0.0.1 k0.1 ∙ ap (λ (x : List ℕ). x ++ 9 ∷ k0.0.1) (kind_field.takes k0.0.0 kind.0 kind.1).0
+    ∙ ap (λ (x : List ℕ). kind_text kind.0 ++ 9 ∷ x) (cut_takes 9 k0.0.1 k1.0.0 k1.0.1 k1.1
+    ∙ ap (λ (x : List ℕ). k1.0.0 ++ 9 ∷ x) (cut_takes 9 k1.0.1 k2.0.0 k2.0.1 k2.1
+    ∙ ap (λ (x : List ℕ). k2.0.0 ++ 9 ∷ x) (cut_takes 9 k2.0.1 k3.0.0 k3.0.1 k3.1
+    ∙ ap (λ (x : List ℕ). k3.0.0 ++ 9 ∷ x) (cut_takes 9 k3.0.1 k4.0.0 k4.0.1 k4.1
+    ∙ ap (λ (x : List ℕ). k4.0.0 ++ 9 ∷ x) (cut_takes 9 k4.0.1 k5.0.0 k5.0.1 k5.1
+    ∙ ap (λ (x : List ℕ). k5.0.0 ++ 9 ∷ x) (cut_takes 9 k5.0.1 k6.0.0 k6.0.1 k6.1
+    ∙ ap (λ (x : List ℕ). k6.0.0 ++ 9 ∷ x) (last_texts_take kind.0 k6.0.1 last.0 last.1))))))))
+
+-- What a line can say
 
 pub record PropsFit (p : Props) : Type 0 where
   pub created : p.created ≤ GREATEST_MOMENT
@@ -97,73 +151,11 @@ pub record PropsFit (p : Props) : Type 0 where
   pub owner : IsSecurity p.owner
   pub audit : IsSecurity p.audit
 
-props_take : (kind : Kind) (line : List ℕ) (p : Props) (rest : List ℕ) → props_at kind line ≡ Some (p, rest) → (line ≡ props_text p (behind kind rest)) × PropsFit p
-unfolding props_at
-props_take kind line p rest e =
-    let k0 = bind_some (field_at attr_at line) (λ attr. field_at (number_at GREATEST_MOMENT) attr.1 >>= λ created. field_at (number_at GREATEST_MOMENT) created.1 >>= λ written. field_at security_at written.1 >>= λ access. field_at security_at access.1 >>= λ owner. audit_at kind owner.1 >>= λ audit. Some (record { attr = attr.0; created = created.0; written = written.0; access = access.0; owner = owner.0; audit = audit.0 }, audit.1)) (p, rest) e in
-    let k1 = bind_some (field_at (number_at GREATEST_MOMENT) k0.0.1) (λ created. field_at (number_at GREATEST_MOMENT) created.1 >>= λ written. field_at security_at written.1 >>= λ access. field_at security_at access.1 >>= λ owner. audit_at kind owner.1 >>= λ audit. Some (record { attr = k0.0.0; created = created.0; written = written.0; access = access.0; owner = owner.0; audit = audit.0 }, audit.1)) (p, rest) k0.2 in
-    let k2 = bind_some (field_at (number_at GREATEST_MOMENT) k1.0.1) (λ written. field_at security_at written.1 >>= λ access. field_at security_at access.1 >>= λ owner. audit_at kind owner.1 >>= λ audit. Some (record { attr = k0.0.0; created = k1.0.0; written = written.0; access = access.0; owner = owner.0; audit = audit.0 }, audit.1)) (p, rest) k1.2 in
-    let k3 = bind_some (field_at security_at k2.0.1) (λ access. field_at security_at access.1 >>= λ owner. audit_at kind owner.1 >>= λ audit. Some (record { attr = k0.0.0; created = k1.0.0; written = k2.0.0; access = access.0; owner = owner.0; audit = audit.0 }, audit.1)) (p, rest) k2.2 in
-    let k4 = bind_some (field_at security_at k3.0.1) (λ owner. audit_at kind owner.1 >>= λ audit. Some (record { attr = k0.0.0; created = k1.0.0; written = k2.0.0; access = k3.0.0; owner = owner.0; audit = audit.0 }, audit.1)) (p, rest) k3.2 in
-    let k5 = bind_some (audit_at kind k4.0.1) (λ audit. Some (record { attr = k0.0.0; created = k1.0.0; written = k2.0.0; access = k3.0.0; owner = k4.0.0; audit = audit.0 }, audit.1)) (p, rest) k4.2 in
-    let f0 = field_takes attr_at attr_text Always attr_field line k0.0.0 k0.0.1 k0.1 in
-    let f1 = field_takes (number_at GREATEST_MOMENT) decimal (UpTo GREATEST_MOMENT) moments k0.0.1 k1.0.0 k1.0.1 k1.1 in
-    let f2 = field_takes (number_at GREATEST_MOMENT) decimal (UpTo GREATEST_MOMENT) moments k1.0.1 k2.0.0 k2.0.1 k2.1 in
-    let f3 = field_takes security_at hex_text IsSecurity security_field k2.0.1 k3.0.0 k3.0.1 k3.1 in
-    let f4 = field_takes security_at hex_text IsSecurity security_field k3.0.1 k4.0.0 k4.0.1 k4.1 in
-    let f5 = audit_takes kind k4.0.1 k5.0.0 k5.0.1 k5.1 in
-    let made : Props × List ℕ = (record { attr = k0.0.0; created = k1.0.0; written = k2.0.0; access = k3.0.0; owner = k4.0.0; audit = k5.0.0 }, k5.0.1) in
-    subst (λ (y : Props × List ℕ). (line ≡ props_text y.0 (behind kind y.1)) × PropsFit y.0) (some_is made (p, rest) k5.2)
-    (f0.0 ∙ ap (λ (t : List ℕ). attr_text k0.0.0 ++ 9 ∷ t) (f1.0 ∙ ap (λ (t : List ℕ). decimal k1.0.0 ++ 9 ∷ t) (f2.0 ∙ ap (λ (t : List ℕ). decimal k2.0.0 ++ 9 ∷ t) (f3.0 ∙ ap (λ (t : List ℕ). hex_text k3.0.0 ++ 9 ∷ t) (f4.0 ∙ ap (λ (t : List ℕ). hex_text k4.0.0 ++ 9 ∷ t) (f5.0))))), record { created = f1.1; written = f2.1; access = f3.1; owner = f4.1; audit = f5.1 })
-
-props_again : (kind : Kind) (p : Props) (rest : List ℕ) → PropsFit p → props_at kind (props_text p (behind kind rest)) ≡ Some (p, left kind rest)
-unfolding props_at
-props_again kind p rest fits =
-    rw (field_again attr_at attr_text Always attr_field p.attr (decimal p.created ++ 9 ∷ (decimal p.written ++ 9 ∷ (hex_text p.access ++ 9 ∷ (hex_text p.owner ++ 9 ∷ (hex_text p.audit ++ behind kind rest))))) tt, field_again (number_at GREATEST_MOMENT) decimal (UpTo GREATEST_MOMENT) moments p.created (decimal p.written ++ 9 ∷ (hex_text p.access ++ 9 ∷ (hex_text p.owner ++ 9 ∷ (hex_text p.audit ++ behind kind rest)))) fits.created, field_again (number_at GREATEST_MOMENT) decimal (UpTo GREATEST_MOMENT) moments p.written (hex_text p.access ++ 9 ∷ (hex_text p.owner ++ 9 ∷ (hex_text p.audit ++ behind kind rest))) fits.written, field_again security_at hex_text IsSecurity security_field p.access (hex_text p.owner ++ 9 ∷ (hex_text p.audit ++ behind kind rest)) fits.access, field_again security_at hex_text IsSecurity security_field p.owner (hex_text p.audit ++ behind kind rest) fits.owner, audit_again kind p.audit rest fits.audit) refl
-
--- The size and the content
-
--- what is left of a line behind the properties
-rest_of : Kind → List ℕ → List ℕ
-rest_of File bytes = decimal (length bytes) ++ 9 ∷ content_text bytes
-rest_of Dir bytes = []
-
-behind_rest : (kind : Kind) (bytes : List ℕ) → behind kind (rest_of kind bytes) ≡ last_text kind bytes
-unfolding behind rest_of
-behind_rest File bytes = refl
-behind_rest Dir bytes = refl
-
-left_rest : (kind : Kind) (bytes : List ℕ) → left kind (rest_of kind bytes) ≡ rest_of kind bytes
-unfolding left rest_of
-left_rest File bytes = refl
-left_rest Dir bytes = refl
-
 -- the bytes that a line can say
 pub record BytesFit (kind : Kind) (bytes : List ℕ) : Type 0 where
   pub are_bytes : IsBytes bytes
   pub size : length bytes ≤ 268435456
   pub none : kind ≡ Dir → bytes ≡ []
-
-last_takes : (kind : Kind) (line bytes : List ℕ) → last_at kind line ≡ Some bytes → (behind kind line ≡ last_text kind bytes) × BytesFit kind bytes
-unfolding last_at behind
-last_takes File line bytes e =
-    let k = bind_some (field_at (number_at 268435456) line) (λ size. content_at size.0 size.1) bytes e in
-    let f = field_takes (number_at 268435456) decimal (UpTo 268435456) sizes line k.0.0 k.0.1 k.1 in
-    let c = content_takes k.0.0 k.0.1 bytes k.2 in (
-      ap (λ (t : List ℕ). 9 ∷ t) (f.0 ∙ ap (λ (n : ℕ). decimal n ++ 9 ∷ k.0.1) (sym c.size_is) ∙ ap (λ (t : List ℕ). decimal (length bytes) ++ 9 ∷ t) c.text_is),
-      record { are_bytes = c.fits; size = omega (arith, f.1, c.size_is); none = λ dir. cc },
-    )
-last_takes Dir line bytes e = let none : [] ≡ bytes = some_is [] bytes e in (refl, subst (BytesFit Dir) none (record { are_bytes = no_bytes; size = omega arith; none = λ _. refl }))
-  where
-    no_bytes : IsBytes []
-    no_bytes i = omega arith
-
-last_again : (kind : Kind) (bytes : List ℕ) → BytesFit kind bytes → last_at kind (rest_of kind bytes) ≡ Some bytes
-unfolding last_at rest_of
-last_again File bytes fits = rw (field_again (number_at 268435456) decimal (UpTo 268435456) sizes (length bytes) (content_text bytes) fits.size) (content_again bytes fits.are_bytes)
-last_again Dir bytes fits = ap (λ bs. Some bs) (sym (fits.none refl))
-
--- The whole line
 
 pub record LineFits (path : List (List ℕ)) (node : Node) : Type 0 where
   pub names : IsPathText path
@@ -171,106 +163,109 @@ pub record LineFits (path : List (List ℕ)) (node : Node) : Type 0 where
   pub props : PropsFit node.props
   pub bytes : BytesFit node.kind node.bytes
 
-pub entry_takes : (line : List ℕ) (entry : Entry) → entry_at line ≡ Some entry → (line ≡ entry_fields entry.0 entry.1) × LineFits entry.0 entry.1
-unfolding entry_at
-entry_takes line entry e =
-    let k0 = bind_some (field_at kind_of line) (λ kind. field_at path_at kind.1 >>= λ path. props_at kind.0 path.1 >>= λ props. last_at kind.0 props.1 >>= λ bytes. Some (path.0, record { spelling = last_name path.0; kind = kind.0; bytes = bytes; props = props.0 })) entry e in
-    let k1 = bind_some (field_at path_at k0.0.1) (λ path. props_at k0.0.0 path.1 >>= λ props. last_at k0.0.0 props.1 >>= λ bytes. Some (path.0, record { spelling = last_name path.0; kind = k0.0.0; bytes = bytes; props = props.0 })) entry k0.2 in
-    let k2 = bind_some (props_at k0.0.0 k1.0.1) (λ props. last_at k0.0.0 props.1 >>= λ bytes. Some (k1.0.0, record { spelling = last_name k1.0.0; kind = k0.0.0; bytes = bytes; props = props.0 })) entry k1.2 in
-    let k3 = bind_some (last_at k0.0.0 k2.0.1) (λ bytes. Some (k1.0.0, record { spelling = last_name k1.0.0; kind = k0.0.0; bytes = bytes; props = k2.0.0 })) entry k2.2 in
-    let f0 = field_takes kind_of kind_text Always kind_field line k0.0.0 k0.0.1 k0.1 in
-    let f1 = field_takes path_at path_text IsPathText path_field k0.0.1 k1.0.0 k1.0.1 k1.1 in
-    let f2 = props_take k0.0.0 k1.0.1 k2.0.0 k2.0.1 k2.1 in
-    let f3 = last_takes k0.0.0 k2.0.1 k3.0 k3.1 in
-    let made : Entry = (k1.0.0, record { spelling = last_name k1.0.0; kind = k0.0.0; bytes = k3.0; props = k2.0.0 }) in
-    subst (λ (n : Entry). (line ≡ entry_fields n.0 n.1) × LineFits n.0 n.1) (some_is made entry k3.2) (
-      f0.0 ∙ ap (λ (t : List ℕ). kind_text k0.0.0 ++ 9 ∷ t) (f1.0 ∙ ap (λ (t : List ℕ). path_text k1.0.0 ++ 9 ∷ t) (f2.0 ∙ ap (props_text k2.0.0) f3.0))
-          ∙ sym (line_is made.0 made.1),
-      record { names = f1.1; spelling = refl; props = f2.1; bytes = f3.1 },
+-- fields that are spelled well
+record FieldsSpell (t : EntryTexts) (f : EntryFields) : Type 0 where
+  path : (t.path ≡ path_text f.path) × IsPathText f.path
+  attr : t.attr ≡ attr_text f.attr
+  access : (t.access ≡ hex_text f.access) × IsBytes f.access
+  owner : (t.owner ≡ hex_text f.owner) × IsBytes f.owner
+  audit : (t.audit ≡ hex_text f.audit) × IsBytes f.audit
+
+fields_take : (t : EntryTexts) (f : EntryFields) → fields_at t ≡ Some f → FieldsSpell t f
+unfolding fields_at
+fields_take t f e =
+    let k0 = bind_some (path_at t.path) _ f e in
+    let k1 = bind_some (attr_at t.attr) _ f k0.2 in
+    let k2 = bind_some (hex_at t.access) _ f k1.2 in
+    let k3 = bind_some (hex_at t.owner) _ f k2.2 in
+    let k4 = bind_some (hex_at t.audit) _ f k3.2 in
+    let made : EntryFields = record { path = k0.0; attr = k1.0; access = k2.0; owner = k3.0; audit = k4.0 } in
+    let q = if_some (is_numeral t.created && (is_numeral t.written && is_numeral t.size)) (Some made) f k4.2 in
+    subst (FieldsSpell t) (some_is made f q.1)
+    (record {
+      path = path_field.takes t.path k0.0 k0.1;
+      attr = (attr_field.takes t.attr k1.0 k1.1).0;
+      access = hex_field.takes t.access k2.0 k2.1;
+      owner = hex_field.takes t.owner k3.0 k3.1;
+      audit = hex_field.takes t.audit k4.0 k4.1;
+    })
+
+-- values that keep to their limits
+record ValuesSpell (t : EntryTexts) (f : EntryFields) (v : EntryValues) : Type 0 where
+  path : v.path ≡ f.path
+  attr : v.props.attr ≡ f.attr
+  created : (t.created ≡ decimal v.props.created) × (v.props.created ≤ GREATEST_MOMENT)
+  written : (t.written ≡ decimal v.props.written) × (v.props.written ≤ GREATEST_MOMENT)
+  access : (v.props.access ≡ f.access) × (length f.access ≤ 65535)
+  owner : (v.props.owner ≡ f.owner) × (length f.owner ≤ 65535)
+  audit : (v.props.audit ≡ f.audit) × (length f.audit ≤ 65535)
+  size : (t.size ≡ decimal v.size) × (v.size ≤ 268435456)
+
+values_take : (t : EntryTexts) (f : EntryFields) (v : EntryValues) → values_at t f ≡ Some v → ValuesSpell t f v
+unfolding values_at
+values_take t f v e =
+    let k0 = bind_some (number_at GREATEST_MOMENT t.created) _ v e in
+    let k1 = bind_some (number_at GREATEST_MOMENT t.written) _ v k0.2 in
+    let k2 = bind_some (number_at 268435456 t.size) _ v k1.2 in
+    let q = if_some (is_short f.access && (is_short f.owner && is_short f.audit)) (Some (values_with f k0.0 k1.0 k2.0)) v k2.2 in
+    let first = and_parts (is_short f.access) (is_short f.owner && is_short f.audit) q.0 in
+    let others = and_parts (is_short f.owner) (is_short f.audit) first.1 in
+    subst (ValuesSpell t f) (some_is (values_with f k0.0 k1.0 k2.0) v q.1)
+    (record {
+      path = refl;
+      attr = refl;
+      created = moments.takes t.created k0.0 k0.1;
+      written = moments.takes t.written k1.0 k1.1;
+      access = (refl, leb-true (length f.access) 65535 first.0);
+      owner = (refl, leb-true (length f.owner) 65535 others.0);
+      audit = (refl, leb-true (length f.audit) 65535 others.1);
+      size = sizes.takes t.size k2.0 k2.1;
+    })
+
+-- the bytes of an entry
+bytes_take : (kind : Kind) (size : ℕ) (text bytes audit number : List ℕ) → bytes_of kind size text ≡ Some bytes → (number ≡ decimal size) × (size ≤ 268435456) → (last_line kind audit number text ≡ audit ++ last_text kind bytes) × BytesFit kind bytes
+unfolding last_line
+bytes_take File size text bytes audit number e spells =
+    let c = content_takes size text bytes e in (
+      ap (λ (n : List ℕ). audit ++ 9 ∷ (n ++ 9 ∷ text)) (spells.0 ∙ ap decimal (sym c.size_is)) ∙ ap (λ (t : List ℕ). audit ++ 9 ∷ (decimal (length bytes) ++ 9 ∷ t)) c.text_is,
+      record { are_bytes = c.fits; size = omega (arith, spells.1, c.size_is); none = λ dir. cc },
     )
+bytes_take Dir size text bytes audit number e spells =
+    let none : [] ≡ bytes = some_is [] bytes e in
+    (sym (append-nil audit), subst (BytesFit Dir) none (record { are_bytes = no_bytes; size = omega arith; none = λ _. refl }))
+  where
+    no_bytes : IsBytes []
+    no_bytes i = omega arith
 
-pub entry_again : (path : List (List ℕ)) (node : Node) → LineFits path node → entry_at (entry_fields path node) ≡ Some (path, node)
-unfolding entry_at
-entry_again path node fits =
-    let rest : List ℕ = rest_of node.kind node.bytes in
-    let props : props_at node.kind (props_text node.props (last_text node.kind node.bytes)) ≡ Some (node.props, rest) =
-    ap (λ (t : List ℕ). props_at node.kind (props_text node.props t)) (sym (behind_rest node.kind node.bytes)) ∙ props_again node.kind node.props rest fits.props ∙ ap (λ (t : List ℕ). Some (node.props, t)) (left_rest node.kind node.bytes) in
-    rw (line_is path node)
-    (rw (field_again kind_of kind_text Always kind_field node.kind (path_text path ++ 9 ∷ props_text node.props (last_text node.kind node.bytes)) tt)
-    (rw (field_again path_at path_text IsPathText path_field path (props_text node.props (last_text node.kind node.bytes)) fits.names)
-    (rw props (rw (last_again node.kind node.bytes fits.bytes) (ap (λ (s : List ℕ). Some (path, record node { spelling = s })) (sym fits.spelling))))))
-
--- No line end in a line, and UTF-8
-
-unfoldable pub IsLine : List ℕ → Type 0
-IsLine text = AllByRecursion (λ b. b ≢ 10) text
-
-pub line_at_place : (text : List ℕ) (i : ℕ) → IsLine text → i < length text → get_or text i 0 ≢ 10
-unfolding IsLine
-line_at_place [] i h lt = absurd (omega arith)
-line_at_place (c ∷ text) zero h lt = h.0
-line_at_place (c ∷ text) (suc i) h lt = line_at_place text i h.1 (omega arith)
-
-tabbed : (text rest : List ℕ) → IsPlain text → IsLine rest → IsLine (text ++ 9 ∷ rest)
-unfolding IsLine IsPlain
-tabbed [] rest p h = (λ e. omega (arith, e), h)
-tabbed (c ∷ text) rest p h = (λ e. omega (arith, p.0, e), tabbed text rest p.1 h)
-
-pub plain_line : (text : List ℕ) → IsPlain text → IsLine text
-unfolding IsLine IsPlain
-plain_line [] p = tt
-plain_line (c ∷ text) p = (λ e. omega (arith, p.0, e), plain_line text p.1)
-
-nil_line : IsLine []
-unfolding IsLine
-nil_line = tt
-
-pub cons_line : (c : ℕ) (text : List ℕ) → c ≢ 10 → IsLine text → IsLine (c ∷ text)
-unfolding IsLine
-cons_line c text ne h = (ne, h)
-
-last_line : (kind : Kind) (bytes : List ℕ) → BytesFit kind bytes → IsLine (last_text kind bytes)
-last_line File bytes fits =
-    cons_line 9 _ (λ e. omega (arith, e)) (tabbed (decimal (length bytes)) _ (sizes.plain (length bytes) fits.size)
-    (plain_line (content_text bytes) (IsPlain-printable 42 (content_text bytes) (omega arith) (content_printable bytes fits.are_bytes))))
-last_line Dir bytes fits = nil_line
-
-followed : (text rest : List ℕ) → IsPlain text → IsLine rest → IsLine (text ++ rest)
-unfolding IsLine IsPlain
-followed [] rest p h = h
-followed (c ∷ text) rest p h = (λ e. omega (arith, p.0, e), followed text rest p.1 h)
-
-pub entry_is_line : (path : List (List ℕ)) (node : Node) → LineFits path node → IsLine (entry_fields path node)
-entry_is_line path node fits =
-    subst IsLine (sym (line_is path node))
-    (tabbed (kind_text node.kind) _ (kind_field.plain node.kind tt)
-    (tabbed (path_text path) _ (path_field.plain path fits.names)
-    (tabbed (attr_text node.props.attr) _ (attr_field.plain node.props.attr tt)
-    (tabbed (decimal node.props.created) _ (moments.plain node.props.created fits.props.created)
-    (tabbed (decimal node.props.written) _ (moments.plain node.props.written fits.props.written)
-    (tabbed (hex_text node.props.access) _ (security_field.plain node.props.access fits.props.access)
-    (tabbed (hex_text node.props.owner) _ (security_field.plain node.props.owner fits.props.owner)
-    (followed (hex_text node.props.audit) _ (security_field.plain node.props.audit fits.props.audit) (last_line node.kind node.bytes fits.bytes)))))))))
-
-tab_is : is_utf8 (9 ∷ []) ≡ true
-unfolding is_utf8 chars encode
-tab_is = refl
-
-tab_utf8 : (text rest : List ℕ) → IsUtf8 text → IsUtf8 rest → IsUtf8 (text ++ 9 ∷ rest)
-tab_utf8 text rest p q = IsUtf8-append text (9 ∷ rest) p (IsUtf8-append (9 ∷ []) rest (IsUtf8-from_is_utf8 (9 ∷ []) tab_is) q)
-
-last_utf8 : (kind : Kind) (bytes : List ℕ) → BytesFit kind bytes → IsUtf8 (last_text kind bytes)
-last_utf8 File bytes fits = tab_utf8 [] _ IsUtf8-nil (tab_utf8 (decimal (length bytes)) _ (sizes.utf8 (length bytes) fits.size) (IsUtf8-printable 42 (content_text bytes) (content_printable bytes fits.are_bytes)))
-last_utf8 Dir bytes fits = IsUtf8-nil
-
-pub entry_utf8 : (path : List (List ℕ)) (node : Node) → LineFits path node → IsUtf8 (entry_fields path node)
-entry_utf8 path node fits =
-    subst IsUtf8 (sym (line_is path node))
-    (tab_utf8 (kind_text node.kind) _ (kind_field.utf8 node.kind tt)
-    (tab_utf8 (path_text path) _ (path_field.utf8 path fits.names)
-    (tab_utf8 (attr_text node.props.attr) _ (attr_field.utf8 node.props.attr tt)
-    (tab_utf8 (decimal node.props.created) _ (moments.utf8 node.props.created fits.props.created)
-    (tab_utf8 (decimal node.props.written) _ (moments.utf8 node.props.written fits.props.written)
-    (tab_utf8 (hex_text node.props.access) _ (security_field.utf8 node.props.access fits.props.access)
-    (tab_utf8 (hex_text node.props.owner) _ (security_field.utf8 node.props.owner fits.props.owner)
-    (IsUtf8-append (hex_text node.props.audit) _ (security_field.utf8 node.props.audit fits.props.audit) (last_utf8 node.kind node.bytes fits.bytes)))))))))
+-- a line that was read is that of its entry
+pub entry_take : (line : List ℕ) (t : EntryTexts) (f : EntryFields) (v : EntryValues) (bytes : List ℕ) → entry_texts line ≡ Some t → fields_at t ≡ Some f → values_at t f ≡ Some v → bytes_of t.kind v.size t.content ≡ Some bytes
+    → (line ≡ entry_fields v.path (node_of t.kind v bytes)) × LineFits v.path (node_of t.kind v bytes)
+unfolding texts_line
+entry_take line t f v bytes texts fields values content =
+    let s = fields_take t f fields in
+    let l = values_take t f v values in
+    let c = bytes_take t.kind v.size t.content bytes t.audit t.size content l.size in
+    let p = v.props in (
+      texts_take line t texts
+          ∙ ap (λ (x : List ℕ). kind_text t.kind ++ 9 ∷ (x ++ 9 ∷ (t.attr ++ 9 ∷ (t.created ++ 9 ∷ (t.written ++ 9 ∷ (t.access ++ 9 ∷ (t.owner ++ 9 ∷ last_line t.kind t.audit t.size t.content))))))) (s.path.0 ∙ ap path_text (sym l.path))
+          ∙ ap (λ (x : List ℕ). kind_text t.kind ++ 9 ∷ (path_text v.path ++ 9 ∷ (x ++ 9 ∷ (t.created ++ 9 ∷ (t.written ++ 9 ∷ (t.access ++ 9 ∷ (t.owner ++ 9 ∷ last_line t.kind t.audit t.size t.content))))))) (s.attr ∙ ap attr_text (sym l.attr))
+          ∙ ap (λ (x : List ℕ). kind_text t.kind ++ 9 ∷ (path_text v.path ++ 9 ∷ (attr_text p.attr ++ 9 ∷ (x ++ 9 ∷ (t.written ++ 9 ∷ (t.access ++ 9 ∷ (t.owner ++ 9 ∷ last_line t.kind t.audit t.size t.content))))))) l.created.0
+          ∙ ap (λ (x : List ℕ). kind_text t.kind ++ 9 ∷ (path_text v.path ++ 9 ∷ (attr_text p.attr ++ 9 ∷ (decimal p.created ++ 9 ∷ (x ++ 9 ∷ (t.access ++ 9 ∷ (t.owner ++ 9 ∷ last_line t.kind t.audit t.size t.content))))))) l.written.0
+          ∙ ap (λ (x : List ℕ). kind_text t.kind ++ 9 ∷ (path_text v.path ++ 9 ∷ (attr_text p.attr ++ 9 ∷ (decimal p.created ++ 9 ∷ (decimal p.written ++ 9 ∷ (x ++ 9 ∷ (t.owner ++ 9 ∷ last_line t.kind t.audit t.size t.content))))))) (s.access.0 ∙ ap hex_text (sym l.access.0))
+          ∙ ap (λ (x : List ℕ). kind_text t.kind ++ 9 ∷ (path_text v.path ++ 9 ∷ (attr_text p.attr ++ 9 ∷ (decimal p.created ++ 9 ∷ (decimal p.written ++ 9 ∷ (hex_text p.access ++ 9 ∷ (x ++ 9 ∷ last_line t.kind t.audit t.size t.content))))))) (s.owner.0 ∙ ap hex_text (sym l.owner.0))
+          ∙ ap (λ (x : List ℕ). kind_text t.kind ++ 9 ∷ (path_text v.path ++ 9 ∷ (attr_text p.attr ++ 9 ∷ (decimal p.created ++ 9 ∷ (decimal p.written ++ 9 ∷ (hex_text p.access ++ 9 ∷ (hex_text p.owner ++ 9 ∷ x)))))))
+          (c.0 ∙ ap (λ (a : List ℕ). a ++ last_text t.kind bytes) (s.audit.0 ∙ ap hex_text (sym l.audit.0)))
+          ∙ sym (line_is v.path (node_of t.kind v bytes)),
+      record {
+        names = subst IsPathText (sym l.path) s.path.1;
+        spelling = refl;
+        props = record {
+          created = l.created.1;
+          written = l.written.1;
+          access = subst IsSecurity (sym l.access.0) (s.access.1, l.access.1);
+          owner = subst IsSecurity (sym l.owner.0) (s.owner.1, l.owner.1);
+          audit = subst IsSecurity (sym l.audit.0) (s.audit.1, l.audit.1);
+        };
+        bytes = c.1;
+      },
+    )

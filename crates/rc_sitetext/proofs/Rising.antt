@@ -5,8 +5,8 @@ use Rattle.std.specs.declared.cmp.Ordering.{Ordering}
 use Rattle.std.specs.declared.cmp.Ordering.TheVariants.{Less, Equal, Greater}
 use Rattle.std.specs.Ordering.{is_lt, ordering_reverse}
 use Rattle.std.specs.List.{All, list_all}
-use Rattle.std.specs.Cmp.{IsTotalOrder}
-use Rattle.std.specs.FinMap.{FinMap, is_sorted, put, entries, insert, entries-insert}
+use Rattle.std.specs.Cmp.{IsTotalOrder, tied_itself}
+use Rattle.std.specs.FinMap.{FinMap, find, is_sorted, put, entries, insert, entries-insert}
 use Rattle.std.specs.FinMap.Entries.{below_all}
 use Rattle.rc_sitetext.specs.Reading.{last_of}
 use Rattle.std.proofs.lemmas.List.Elements.{All-cons, All-nil}
@@ -114,3 +114,22 @@ module _ {K X : Type 0} (R : K → K → Ordering) (o : IsTotalOrder R) where
 
   pub entries-insert_last : (m : FinMap R X) (k : K) (v : X) → list_all (λ e. is_lt (R e.0 k)) (entries m) ≡ true → entries (insert m k v) ≡ entries m ++ (k, v) ∷ []
   entries-insert_last m k v above = entries-insert o m k v ∙ put_last k v (entries m) above
+
+-- an entry is above those before it, and is what is found at its key
+module _ {K X : Type 0} (R : K → K → Ordering) where
+  below_at : (k : K) (xs : List (K × X)) (e : K × X) (es : List (K × X)) → T (below_all R k (xs ++ e ∷ es)) → T (is_lt (R k e.0))
+  below_at k [] e es h = first (is_lt (R k e.0)) (below_all R k es) h
+  below_at k (x ∷ xs) e es h = below_at k xs e es (second (is_lt (R k x.0)) (below_all R k (xs ++ e ∷ es)) h)
+
+  pub above_front : (xs : List (K × X)) (e : K × X) (es : List (K × X)) → T (is_sorted R (xs ++ e ∷ es)) → list_all (λ x. is_lt (R x.0 e.0)) xs ≡ true
+  above_front [] e es h = refl
+  above_front (x ∷ xs) e es h =
+      let below = below_at x.0 xs e es (first (below_all R x.0 (xs ++ e ∷ es)) (is_sorted R (xs ++ e ∷ es)) h) in
+      rw (is_true (is_lt (R x.0 e.0)) below) (above_front xs e es (second (below_all R x.0 (xs ++ e ∷ es)) (is_sorted R (xs ++ e ∷ es)) h))
+
+  pub found_at : (o : IsTotalOrder R) (xs : List (K × X)) (e : K × X) (es : List (K × X)) → T (is_sorted R (xs ++ e ∷ es)) → find R e.0 (xs ++ e ∷ es) ≡ Some e.1
+  found_at o [] e es h = rw (tied_itself o e.0) refl
+  found_at o (x ∷ xs) e es h =
+      let below = below_at x.0 xs e es (first (below_all R x.0 (xs ++ e ∷ es)) (is_sorted R (xs ++ e ∷ es)) h) in
+      let back : R e.0 x.0 ≡ Greater = o.antisymm e.0 x.0 ∙ ap ordering_reverse (less (R x.0 e.0) below) in
+      rw back (found_at o xs e es (second (below_all R x.0 (xs ++ e ∷ es)) (is_sorted R (xs ++ e ∷ es)) h))

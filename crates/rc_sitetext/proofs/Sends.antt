@@ -10,10 +10,12 @@ use Rattle.rc_tree.specs.Path.{key_of}
 use Rattle.rc_tree.specs.Spelled.{spelled}
 use Rattle.rc_tree.specs.Tree.{Node, Tree}
 use Rattle.rc_volume.specs.Streams.{AppendsFront}
+use Rattle.rc_mem.specs.declared.jobs.JobBytes.{JobBytes}
 use Rattle.rc_mem.specs.declared.node.TreeNode.{TreeNode}
+use Rattle.rc_mem.specs.MemJobs.{filed}
 use Rattle.rc_mem.specs.Nodes.{at_key, node_of, IsSpelledIn}
-use Rattle.rc_sitetext.specs.SiteText.{entry_line, tree_lines}
-use Rattle.rc_sitetext.specs.Writing.{node_line}
+use Rattle.rc_sitetext.specs.SiteText.{AreFiles, JobText, Jobs, entry_line, job_filed, job_line, tree_lines}
+use Rattle.rc_sitetext.specs.Writing.{job_bytes_line, job_text, node_line}
 use Rattle.rc_sitetext.proofs.Ways.{own-is}
 
 pub on_err : {T E P : Type 0} (r : Result T E) → P → OnErr r P
@@ -37,20 +39,47 @@ front_in old mid new a b c whole before front is =
 pub front_first : (old new b c whole : List ℕ) → AppendsFront old b new → whole ≡ b ++ c → AppendsFront old whole new
 front_first old new b c whole front is = front_in old old new [] b c whole (sym (append-nil old)) front is
 
--- The lines of nodes
+-- The lines of nodes, and other pieces
 
 abbrev pub node_lines : List TreeNode → List ℕ
 node_lines nodes = flat_map node_line nodes
 
+pub pieces_split : {X : Type 0} (piece : X → List ℕ) (xs : List X) (i : ℕ) (d : X) → i < length xs → flat_map piece xs ≡ flat_map piece (take i xs) ++ (piece (get_or xs i d) ++ flat_map piece (drop (i + 1) xs))
+pieces_split piece xs i d lt =
+    ap (flat_map piece) (sym (take-append-drop i xs)) ∙ flat_map-append piece (take i xs) (drop i xs)
+    ∙ ap (λ (t : List ℕ). flat_map piece (take i xs) ++ t) (at_drop_more (flat_map piece) xs i d lt ∙ flat_map-cons piece (get_or xs i d) (drop (i + 1) xs))
+
+pub pieces_next : {X : Type 0} (piece : X → List ℕ) (xs : List X) (i : ℕ) (d : X) → i < length xs → flat_map piece (take (i + 1) xs) ≡ flat_map piece (take i xs) ++ piece (get_or xs i d)
+pieces_next piece xs i d lt =
+    ap (flat_map piece) (take_more xs i d lt) ∙ flat_map-append piece (take i xs) (get_or xs i d ∷ [])
+    ∙ ap (λ (t : List ℕ). flat_map piece (take i xs) ++ t) (flat_map-cons piece (get_or xs i d) [] ∙ append-nil (piece (get_or xs i d)))
+
 pub lines_split : (nodes : List TreeNode) (i : ℕ) (d : TreeNode) → i < length nodes → node_lines nodes ≡ node_lines (take i nodes) ++ (node_line (get_or nodes i d) ++ node_lines (drop (i + 1) nodes))
-lines_split nodes i d lt =
-    ap node_lines (sym (take-append-drop i nodes)) ∙ flat_map-append node_line (take i nodes) (drop i nodes)
-    ∙ ap (λ (t : List ℕ). node_lines (take i nodes) ++ t) (at_drop_more node_lines nodes i d lt ∙ flat_map-cons node_line (get_or nodes i d) (drop (i + 1) nodes))
+lines_split nodes i d lt = pieces_split node_line nodes i d lt
 
 pub lines_more : (nodes : List TreeNode) (i : ℕ) (d : TreeNode) → i < length nodes → node_lines (take (i + 1) nodes) ≡ node_lines (take i nodes) ++ node_line (get_or nodes i d)
-lines_more nodes i d lt =
-    ap node_lines (take_more nodes i d lt) ∙ flat_map-append node_line (take i nodes) (get_or nodes i d ∷ [])
-    ∙ ap (λ (t : List ℕ). node_lines (take i nodes) ++ t) (flat_map-cons node_line (get_or nodes i d) [] ∙ append-nil (node_line (get_or nodes i d)))
+lines_more nodes i d lt = pieces_next node_line nodes i d lt
+
+-- The lines of job files
+
+abbrev pub file_lines : List JobBytes → List ℕ
+file_lines files = flat_map job_bytes_line files
+
+abbrev pub texts_of : List JobBytes → List JobText
+texts_of files = map job_text files
+
+pub file_lines_are : (files : List JobBytes) → file_lines files ≡ flat_map job_line (texts_of files)
+file_lines_are [] = refl
+file_lines_are (job ∷ files) =
+    flat_map-cons job_bytes_line job files ∙ ap (λ (t : List ℕ). job_line (job_text job) ++ t) (file_lines_are files)
+    ∙ sym (flat_map-cons job_line (job_text job) (texts_of files))
+
+filed_again : (files : List JobBytes) → map job_filed (texts_of files) ≡ map filed files
+filed_again [] = refl
+filed_again (job ∷ files) = ap (λ (es : List (List ℕ × List ℕ)). filed job ∷ es) (filed_again files)
+
+pub are_files : (jobs : Jobs) (files : List JobBytes) → map filed files ≡ entries jobs → AreFiles jobs (texts_of files)
+are_files jobs files e = filed_again files ∙ e
 
 -- nodes that the tree spells so have the lines of their keys
 lines_of : (tree : Tree) (nodes : List TreeNode) → AllByRecursion (λ node. IsSpelledIn tree node.path) nodes → node_lines nodes ≡ flat_map (λ (entry : List (List ℕ) × Node). entry_line (spelled tree entry.0) entry.1) (map at_key nodes)

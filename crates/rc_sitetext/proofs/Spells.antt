@@ -1,5 +1,5 @@
 -- What a value is read from is its spelling, and its spelling is read again.
-use Rattle.std.proofs.Common.{◌≡◌, ◌≢◌, ℕ, ◌^◌, ◌<◌, ◌≤◌, Bool, true, false, not, ◌&&◌, cond, eqb, ltb, leb, List, [], ◌∷◌, ◌++◌, length, get_or, Option, Some, None, refl, sym, ap, subst, ◌∙◌, arith, inl, inr}
+use Rattle.std.proofs.Common.{◌≡◌, ◌≢◌, ℕ, ◌^◌, ◌<◌, ◌≤◌, Bool, true, false, not, ◌&&◌, cond, eqb, ltb, leb, List, [], ◌∷◌, ◌++◌, length, get_or, Option, Some, None, refl, sym, ap, ◌∙◌, arith, inl, inr}
 use Rattle.std.specs.Prelude.{option_map}
 use Rattle.std.specs.Fmt.{decimal}
 use Rattle.std.specs.Str.{IsUtf8, all_ascii_digits}
@@ -7,10 +7,9 @@ use Rattle.std.specs.Str.Parse.{digits_value}
 use Rattle.std.proofs.lemmas.Bool.{cases_lt, ne_eqb, eqb-false, eqb-true, ltb-true, ltb-false, leb-true, le-leb, lt-ltb, and_parts, and_cases, or_parts, not-true}
 use Rattle.std.proofs.lemmas.Str.{IsUtf8-from_ascii}
 use Rattle.std.proofs.lemmas.Fmt.{digits_decimal, digits_value-decimal, decimal-digits_value, decimal_nonempty, first_decimal, decimal_digit, IsAscii-decimal}
-use Rattle.rc_sitetext.specs.Reading.{◌>>=◌, number_at, is_numeral, is_padded, cut, field_at}
+use Rattle.rc_sitetext.specs.Reading.{◌>>=◌, number_at, is_numeral, is_padded, cut}
 use Rattle.rc_sitetext.proofs.FieldValues.{numerals}
-use Rattle.rc_sitetext.proofs.Cuts.{cut_at}
-use Rattle.rc_sitetext.proofs.Plain.{IsPlain, IsPlain-without, IsPlain-digits}
+use Rattle.rc_sitetext.proofs.Plain.{IsPlain, IsPlain-digits}
 
 -- a reader that takes just the spellings of the values that fit
 pub record IsField {X : Type 0} (read : List ℕ → Option X) (spell : X → List ℕ) (Fits : X → Type 0) : Type 0 where
@@ -54,23 +53,6 @@ pub cut_takes : (c : ℕ) (text front rest : List ℕ) → cut c text ≡ Some (
 unfolding cut
 cut_takes c [] front rest e = absurd cc
 cut_takes c (b ∷ text) front rest e = cut_here b c (eqb b c) text front rest (cut c text) refl (λ more h. cut_takes c text more rest h) e
-
-pub field_takes : {X : Type 0} (read : List ℕ → Option X) (spell : X → List ℕ) (Fits : X → Type 0) → IsField read spell Fits → (line : List ℕ) (x : X) (rest : List ℕ) → field_at read line ≡ Some (x, rest) → (line ≡ spell x ++ 9 ∷ rest) × Fits x
-unfolding field_at
-field_takes {X} read spell Fits law line x rest e =
-    let a = bind_some (cut 9 line) (λ field. read field.0 >>= λ value. Some (value, field.1)) (x, rest) e in
-    let b = bind_some (read a.0.0) (λ value. Some (value, a.0.1)) (x, rest) a.2 in
-    let t = law.takes a.0.0 b.0 b.1 in
-    let pair : (b.0, a.0.1) ≡ (x, rest) = some_is (b.0, a.0.1) (x, rest) b.2 in
-    let value : b.0 ≡ x = ap (λ (p : X × List ℕ). p.0) pair in
-    let left : a.0.1 ≡ rest = ap (λ (p : X × List ℕ). p.1) pair in (
-      cut_takes 9 line a.0.0 a.0.1 a.1 ∙ ap (λ (t : List ℕ). t ++ 9 ∷ a.0.1) t.0 ∙ ap (λ (v : X). spell v ++ 9 ∷ a.0.1) value ∙ ap (λ (r : List ℕ). spell x ++ 9 ∷ r) left,
-      subst Fits value t.1,
-    )
-
-pub field_again : {X : Type 0} (read : List ℕ → Option X) (spell : X → List ℕ) (Fits : X → Type 0) → IsField read spell Fits → (x : X) (rest : List ℕ) → Fits x → field_at read (spell x ++ 9 ∷ rest) ≡ Some (x, rest)
-unfolding field_at
-field_again read spell Fits law x rest fits = rw (cut_at 9 (spell x) rest (IsPlain-without (spell x) 9 (omega arith) (law.plain x fits)), law.again x fits) refl
 
 -- Numbers
 

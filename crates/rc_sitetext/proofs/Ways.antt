@@ -115,7 +115,7 @@ found_there : (found : Option Node) → IfSome found (λ node. node.kind ≡ Dir
 found_there None dir there = absurd (there refl)
 found_there (Some node) dir there = ap is_dir_kind dir
 
-directory-from : (tree : Tree) (key : List (List ℕ)) → is_dir tree key ≡ true → IsDirectory tree key
+pub directory-from : (tree : Tree) (key : List (List ℕ)) → is_dir tree key ≡ true → IsDirectory tree key
 directory-from tree [] e = tt
 directory-from tree (n ∷ ns) e = dir_found (get tree (n ∷ ns)) e
 

@@ -1,11 +1,12 @@
--- What reading a site text gives, on lists of bytes: the value, and nothing where the text is refused.
-use Rattle.std.specs.Prelude.{◌≡◌, ℕ, Bool, true, false, not, ◌&&◌, ◌||◌, ◌==◌, nat_le, nat_lt, if◌then◌else◌, List, [], ◌∷◌, length, take, drop, replicate, slice_index, codes, Option, Some, None, Result, Ok, Err, option_map, is_none, chars}
-use Rattle.std.specs.List.{list_any, list_all, slice_split, join_with_byte}
+-- What reading a line of a site text gives, field by field, on lists of bytes: the value, and nothing where it is refused.
+use Rattle.std.specs.Prelude.{◌≡◌, ℕ, Bool, true, false, not, ◌&&◌, ◌||◌, ◌==◌, nat_le, nat_lt, if◌then◌else◌, List, [], ◌∷◌, length, replicate, slice_index, codes, Option, Some, None, Result, Ok, Err, option_map, is_none, chars}
+use Rattle.std.specs.List.{list_any, list_all}
 use Rattle.std.specs.Str.{is_utf8, bytes_eq, all_ascii_digits}
 use Rattle.std.specs.Str.Parse.{digits_value}
 use Rattle.std.specs.Ordering.{is_lt}
+use Rattle.std.specs.declared.cmp.Ordering.{Ordering}
 use Rattle.std.specs.Result.{result_ok}
-use Rattle.std.specs.FinMap.{entries, empty, insert}
+use Rattle.std.specs.FinMap.{FinMap, entries}
 use Rattle.hex.specs.Hex.{decode_of}
 use Rattle.hex.specs.declared.error.FromHexError.{FromHexError}
 use Rattle.hex.specs.declared.error.FromHexError.TheVariants as hex
@@ -17,21 +18,20 @@ use Rattle.rc_tree.specs.declared.path.PathErr.{PathErr}
 use Rattle.rc_tree.specs.declared.path.PathErr.TheVariants as path
 use Rattle.rc_tree.specs.declared.props.Props.{Props}
 use Rattle.rc_tree.specs.Attr.{no_attr}
-use Rattle.rc_tree.specs.Path.{key_cmp, key_of, last_name, names_in, parent_of, path_fault}
+use Rattle.rc_tree.specs.Path.{key_of, last_name, names_in, path_fault}
 use Rattle.rc_tree.specs.Spelled.{spelled}
 use Rattle.rc_tree.specs.Tree.{Node, Tree}
 use Rattle.rc_mem.specs.Directories.{is_dir}
-use Rattle.rc_sitetext.specs.declared.err.SiteTextErr.{SiteTextErr}
-use Rattle.rc_sitetext.specs.declared.site_file.SiteFile.{SiteFile}
-use Rattle.rc_sitetext.specs.declared.err.SiteTextErr.TheVariants.{Refused, NoMemory}
-use Rattle.rc_sitetext.specs.SiteText.{letters, is_repeated}
+use Rattle.rc_sitetext.specs.declared.err.ValueErr.{ValueErr}
+use Rattle.rc_sitetext.specs.declared.err.ValueErr.TheVariants.{Refused, NoMemory}
+use Rattle.rc_sitetext.specs.SiteText.{letters, is_repeated, JobText}
 
--- want of memory stays that, and any other fault refuses the text
-abbrev pub path_refusal : PathErr → SiteTextErr
+-- want of memory stays that, and any other fault refuses the value
+abbrev pub path_refusal : PathErr → ValueErr
 path_refusal path.NoMemory = NoMemory
 path_refusal _ = Refused
 
-abbrev pub hex_refusal : FromHexError → SiteTextErr
+abbrev pub hex_refusal : FromHexError → ValueErr
 hex_refusal hex.OutOfMemory = NoMemory
 hex_refusal _ = Refused
 
@@ -41,11 +41,11 @@ abbrev pub ◌>>=◌ : {A B : Type 0} → Option A → (A → Option B) → Opti
 None >>= f = None
 
 -- what a function answered, seen by view, is what reading gives, unless memory ran out
-abbrev pub Fails : {Y : Type 0} → SiteTextErr → Option Y → Type 0
+abbrev pub Fails : {Y : Type 0} → ValueErr → Option Y → Type 0
 Fails NoMemory read = Unit {0}
 Fails Refused read = read ≡ None
 
-abbrev pub Gives : {X Y : Type 0} → (X → Y) → Result X SiteTextErr → Option Y → Type 0
+abbrev pub Gives : {X Y : Type 0} → (X → Y) → Result X ValueErr → Option Y → Type 0
 Gives view (Ok x) read = read ≡ Some (view x)
 Gives view (Err e) read = Fails e read
 
@@ -110,10 +110,11 @@ is_upper c = nat_le 65 c && nat_le c 90
 unfoldable pub bytes_at : List ℕ → Option (List ℕ)
 bytes_at text = if list_any is_upper text then None else result_ok (decode_of text)
 
-unfoldable pub security_at : List ℕ → Option (List ℕ)
-security_at text =
+-- a byte string: `-` for no bytes, else each byte
+unfoldable pub hex_at : List ℕ → Option (List ℕ)
+hex_at text =
     if bytes_eq text (codes "-") then Some []
-    else bytes_at text >>= λ bytes. if length bytes == 0 || nat_lt 65535 (length bytes) then None else Some bytes
+    else bytes_at text >>= λ bytes. if length bytes == 0 then None else Some bytes
 
 abbrev pub repeated_byte : ℕ → List ℕ → Option (List ℕ)
 repeated_byte size (b ∷ []) = if nat_lt 1 size then Some (replicate size b) else None
@@ -139,72 +140,152 @@ unfoldable pub cut : ℕ → List ℕ → Option (List ℕ × List ℕ)
 cut c [] = None
 cut c (b ∷ text) = if b == c then Some ([], text) else option_map (λ p. (b ∷ p.0, p.1)) (cut c text)
 
--- the value of the next field, and what comes behind its tab
-unfoldable pub field_at : {X : Type 0} → (List ℕ → Option X) → List ℕ → Option (X × List ℕ)
-field_at read line = cut 9 line >>= λ field. read field.0 >>= λ value. Some (value, field.1)
+-- the last field: behind it comes no tab
+unfoldable pub last_field : List ℕ → Option (List ℕ)
+last_field text = if is_none (cut 9 text) then Some text else None
+
+-- the one field behind this first one
+unfoldable pub value_behind : List ℕ → List ℕ → Option (List ℕ)
+value_behind tag line = cut 9 line >>= λ first. if bytes_eq first.0 tag then last_field first.1 else None
 
 abbrev pub kind_of : List ℕ → Option Kind
 kind_of text = if bytes_eq text (codes "F") then Some File else if bytes_eq text (codes "D") then Some Dir else None
 
--- the last security string: behind it comes what only a file has
-unfoldable pub audit_at : Kind → List ℕ → Option (List ℕ × List ℕ)
-audit_at File line = field_at security_at line
-audit_at Dir line = security_at line >>= λ audit. Some (audit, [])
+-- the texts of the fields of an entry
+pub record EntryTexts : Type 0 where
+  pub kind : Kind
+  pub path : List ℕ
+  pub attr : List ℕ
+  pub created : List ℕ
+  pub written : List ℕ
+  pub access : List ℕ
+  pub owner : List ℕ
+  pub audit : List ℕ
+  pub size : List ℕ
+  pub content : List ℕ
 
-unfoldable pub props_at : Kind → List ℕ → Option (Props × List ℕ)
-props_at kind line = do
-  attr ← field_at attr_at line
-  created ← field_at (number_at GREATEST_MOMENT) attr.1
-  written ← field_at (number_at GREATEST_MOMENT) created.1
-  access ← field_at security_at written.1
-  owner ← field_at security_at access.1
-  audit ← audit_at kind owner.1
-  Some (record { attr = attr.0; created = created.0; written = written.0; access = access.0; owner = owner.0; audit = audit.0 }, audit.1)
+-- the last fields: the security string, the size and the content; a directory stands for no bytes
+pub record LastTexts : Type 0 where
+  pub audit : List ℕ
+  pub size : List ℕ
+  pub content : List ℕ
 
-unfoldable pub last_at : Kind → List ℕ → Option (List ℕ)
-last_at Dir line = Some []
-last_at File line = do
-  size ← field_at (number_at 268435456) line
-  content_at size.0 size.1
+unfoldable pub last_texts : Kind → List ℕ → Option LastTexts
+last_texts Dir line = last_field line >>= λ audit. Some (record { audit = audit; size = codes "0"; content = codes "-" })
+last_texts File line = do
+  audit ← cut 9 line
+  size ← cut 9 audit.1
+  content ← last_field size.1
+  Some (record { audit = audit.0; size = size.0; content = content })
 
--- an entry with its path
-abbrev pub Entry : Type 0
-Entry = List (List ℕ) × Node
+-- the fields of an entry's line: ten of a file, eight of a directory
+unfoldable pub entry_texts : List ℕ → Option EntryTexts
+entry_texts line = do
+  letter ← cut 9 line
+  kind ← kind_of letter.0
+  path ← cut 9 letter.1
+  attr ← cut 9 path.1
+  created ← cut 9 attr.1
+  written ← cut 9 created.1
+  access ← cut 9 written.1
+  owner ← cut 9 access.1
+  last ← last_texts kind owner.1
+  Some (record {
+    kind = kind;
+    path = path.0;
+    attr = attr.0;
+    created = created.0;
+    written = written.0;
+    access = access.0;
+    owner = owner.0;
+    audit = last.audit;
+    size = last.size;
+    content = last.content;
+  })
 
-unfoldable pub entry_at : List ℕ → Option Entry
-entry_at line = do
-  kind ← field_at kind_of line
-  path ← field_at path_at kind.1
-  props ← props_at kind.0 path.1
-  bytes ← last_at kind.0 props.1
-  Some (path.0, record { spelling = last_name path.0; kind = kind.0; bytes = bytes; props = props.0 })
+-- the fields that are spelled well, the numbers among them of any length
+pub record EntryFields : Type 0 where
+  pub path : List (List ℕ)
+  pub attr : Attr
+  pub access : List ℕ
+  pub owner : List ℕ
+  pub audit : List ℕ
 
--- Lines of a text
+unfoldable pub fields_at : EntryTexts → Option EntryFields
+fields_at texts = do
+  path ← path_at texts.path
+  attr ← attr_at texts.attr
+  access ← hex_at texts.access
+  owner ← hex_at texts.owner
+  audit ← hex_at texts.audit
+  if is_numeral texts.created && (is_numeral texts.written && is_numeral texts.size) then Some (record { path = path; attr = attr; access = access; owner = owner; audit = audit }) else None
 
-abbrev pub lines_in : List ℕ → List (List ℕ)
-lines_in text = slice_split (λ b. b == 10) text
+-- a security string that is not too long
+abbrev pub is_short : List ℕ → Bool
+is_short bytes = nat_le (length bytes) 65535
 
--- the next line, and the parts behind it; the last part has no line end
-abbrev pub line_at : List (List ℕ) → Option (List ℕ × List (List ℕ))
-line_at [] = None
-line_at (line ∷ lines) = if length lines == 0 then None else Some (line, lines)
+-- the path, the properties and the size, where none is above its limit
+pub record EntryValues : Type 0 where
+  pub path : List (List ℕ)
+  pub props : Props
+  pub size : ℕ
 
-unfoldable pub is_above : Tree → List (List ℕ) → Bool
-is_above tree key = list_all (λ e. is_lt (key_cmp e.0 key)) (entries tree)
+abbrev pub values_with : EntryFields → ℕ → ℕ → ℕ → EntryValues
+values_with fields created written size =
+    record {
+      path = fields.path;
+      props = record { attr = fields.attr; created = created; written = written; access = fields.access; owner = fields.owner; audit = fields.audit };
+      size = size;
+    }
 
--- the greatest key of a tree, where it has one
+unfoldable pub values_at : EntryTexts → EntryFields → Option EntryValues
+values_at texts fields = do
+  created ← number_at GREATEST_MOMENT texts.created
+  written ← number_at GREATEST_MOMENT texts.written
+  size ← number_at 268435456 texts.size
+  if is_short fields.access && (is_short fields.owner && is_short fields.audit) then Some (values_with fields created written size) else None
+
+-- a directory has no bytes
+abbrev pub bytes_of : Kind → ℕ → List ℕ → Option (List ℕ)
+bytes_of File size text = content_at size text
+bytes_of Dir size text = Some []
+
+abbrev pub node_of : Kind → EntryValues → List ℕ → Node
+node_of kind values bytes = record { spelling = last_name values.path; kind = kind; bytes = bytes; props = values.props }
+
+-- the name and the bytes of a job file, as texts
+unfoldable pub job_texts : List ℕ → Option (List ℕ × List ℕ)
+job_texts line = do
+  first ← cut 9 line
+  name ← if bytes_eq first.0 (codes "JOB") then cut 9 first.1 else None
+  bytes ← last_field name.1
+  Some (name.0, bytes)
+
+unfoldable pub job_name_at : List ℕ → Option (List ℕ)
+job_name_at text = if is_utf8 text && nat_lt 0 (length text) then Some (chars text) else None
+
+unfoldable pub job_at : List ℕ × List ℕ → Option JobText
+job_at texts = job_name_at texts.0 >>= λ name. hex_at texts.1 >>= λ bytes. Some (name, bytes)
+
+-- Where an entry may stand
+
+-- above all keys of a map
+unfoldable pub is_above : {K X : Type 0} {R : K → K → Ordering} → FinMap R X → K → Bool
+is_above {R = R} map key = list_all (λ e. is_lt (R e.0 key)) (entries map)
+
+-- the greatest key of a map, where it has one
 abbrev pub last_of : {K X : Type 0} → List (K × X) → Option K
 last_of [] = None
 last_of (entry ∷ []) = Some entry.0
 last_of (entry ∷ next ∷ entries) = last_of (next ∷ entries)
 
-abbrev pub last_key : Tree → Option (List (List ℕ))
-last_key tree = last_of (entries tree)
+abbrev pub last_key : {K X : Type 0} {R : K → K → Ordering} → FinMap R X → Option K
+last_key map = last_of (entries map)
 
 -- whether a key comes behind the greatest one
-abbrev pub is_behind : Option (List (List ℕ)) → List (List ℕ) → Bool
-is_behind None key = true
-is_behind (Some last) key = is_lt (key_cmp last key)
+abbrev pub is_behind : {K : Type 0} → (K → K → Ordering) → Option K → K → Bool
+is_behind R None key = true
+is_behind R (Some last) key = is_lt (R last key)
 
 -- the same names in the same spelling
 abbrev pub are_same : List (List ℕ) → List (List ℕ) → Bool
@@ -220,41 +301,3 @@ is_own_dir tree (name ∷ names) = is_dir tree (key_of (name ∷ names)) && are_
 abbrev pub is_within : Tree → Option (List (List ℕ)) → Bool
 is_within tree None = false
 is_within tree (Some dir) = is_own_dir tree dir
-
--- whether an entry may come next at a path: behind all others, in such a directory
-unfoldable pub may_come : Tree → List (List ℕ) → Bool
-may_come tree path = is_above tree (key_of path) && is_within tree (parent_of path)
-
-unfoldable pub added_at : Tree → List ℕ → Option Tree
-added_at tree line = entry_at line >>= λ entry. if may_come tree entry.0 then Some (insert tree (key_of entry.0) entry.1) else None
-
--- the tree with the entries of the lines before the line that ends them, and the parts behind that line
-unfoldable pub entries_at : List ℕ → Tree → List (List ℕ) → Option (Tree × List (List ℕ))
-entries_at end tree [] = None
-entries_at end tree (line ∷ lines) =
-    if length lines == 0 then None
-    else if bytes_eq line end then Some (tree, lines)
-    else added_at tree line >>= λ more. entries_at end more lines
-
-unfoldable pub expect_at : List ℕ → List (List ℕ) → Option (List (List ℕ))
-expect_at wanted lines = line_at lines >>= λ x. if bytes_eq x.0 wanted then Some x.1 else None
-
-abbrev pub is_moment_line : List ℕ → Bool
-is_moment_line line = bytes_eq (take 7 line) (codes "MOMENT\t")
-
-unfoldable pub moment_at : List (List ℕ) → Option (ℕ × List (List ℕ))
-moment_at lines = line_at lines >>= λ x. if is_moment_line x.0 then (number_at GREATEST_MOMENT (drop 7 x.0) >>= λ n. Some (n, x.1)) else None
-
-unfoldable pub site_at : List (List ℕ) → Option SiteFile
-site_at lines = do
-  first ← expect_at (codes "SITE\t1") lines
-  moment ← moment_at first
-  source_line ← expect_at (codes "SOURCE") moment.1
-  source ← entries_at (codes "TARGET") empty source_line
-  target ← entries_at (codes "RECORD\t-") empty source.1
-  rest ← expect_at (codes "END") target.1
-  if length (join_with_byte 10 rest) == 0 then Some (record { moment = moment.0; source = source.0; target = target.0 }) else None
-
--- all of the text
-unfoldable pub text_at : List ℕ → Option SiteFile
-text_at text = if is_utf8 text then site_at (lines_in text) else None

@@ -1,18 +1,21 @@
--- The one spelling of a moment and two trees.
-use Rattle.std.specs.Prelude.{◌≡◌, ℕ, ◌≤◌, Bool, true, false, ◌&&◌, nat_lt, if◌then◌else◌, List, [], ◌∷◌, ◌++◌, length, take, codes, IfSome}
-use Rattle.std.specs.List.{flat_map, join_with_byte, list_all}
+-- The one spelling of a moment, a site and job files.
+use Rattle.std.specs.Prelude.{◌≡◌, ℕ, ◌<◌, ◌≤◌, Bool, true, false, not, ◌&&◌, ◌||◌, map, nat_lt, if◌then◌else◌, List, [], ◌∷◌, ◌++◌, length, take, codes, IfSome}
+use Rattle.std.specs.List.{AllByRecursion, flat_map, join_with_byte, list_all}
 use Rattle.std.specs.Prelude.{◌==◌}
 use Rattle.std.specs.Fmt.{decimal}
 use Rattle.std.specs.Str.{encode_utf8_all, all_scalars}
-use Rattle.std.specs.FinMap.{get, entries}
+use Rattle.std.specs.FinMap.{FinMap, get, entries}
 use Rattle.hex.specs.Hex.{encode_lower, IsBytes}
 use Rattle.rc_tree.specs.declared.attr.Attr.{Attr}
 use Rattle.rc_tree.specs.declared.attr.Kind.{Kind}
 use Rattle.rc_tree.specs.declared.attr.Kind.TheVariants.{File, Dir}
 use Rattle.rc_tree.specs.declared.props.Props.{Props}
 use Rattle.rc_tree.specs.declared.moment.TheConstants.{GREATEST_MOMENT}
+use Rattle.rc_tree.specs.Name.{folded}
+use Rattle.rc_tree.specs.Path.{name_cmp}
 use Rattle.rc_tree.specs.Spelled.{spelled}
 use Rattle.rc_tree.specs.Tree.{Node, Tree, IsTree}
+use Rattle.rc_volume.specs.Site.{Told}
 
 -- the text, or `-` in the place of none
 abbrev pub or_dash : List ℕ → List ℕ
@@ -81,10 +84,21 @@ tree_lines tree = flat_map (λ entry. entry_line (spelled tree entry.0) entry.1)
 abbrev pub head_text : ℕ → List ℕ
 head_text moment = codes "SITE\t1\nMOMENT\t" ++ (decimal moment ++ codes "\nSOURCE\n")
 
--- the moment, the entries of the source, those of the target, and the empty record
-abbrev pub site_text : ℕ → Tree → Tree → List ℕ
-site_text moment source target =
-    head_text moment ++ (tree_lines source ++ codes "TARGET\n") ++ (tree_lines target ++ codes "RECORD\t-\nEND\n")
+-- the bytes of the record
+abbrev pub record_line : List ℕ → List ℕ
+record_line notes = codes "RECORD\t" ++ (hex_text notes ++ codes "\n")
+
+-- a job file: its name as it is spelled, and its bytes
+abbrev pub JobText : Type 0
+JobText = List ℕ × List ℕ
+
+abbrev pub job_line : JobText → List ℕ
+job_line job = codes "JOB\t" ++ (encode_utf8_all job.0 ++ 9 ∷ (hex_text job.1 ++ codes "\n"))
+
+-- the moment, the entries of the source, those of the target, the record and the job files
+abbrev pub site_text : ℕ → Told → List JobText → List ℕ
+site_text moment told jobs =
+    head_text moment ++ (tree_lines told.source ++ codes "TARGET\n") ++ (tree_lines told.target ++ record_line told.notes) ++ (flat_map job_line jobs ++ codes "END\n")
 
 -- what a security string may be
 abbrev pub IsSecurity : List ℕ → Type 0
@@ -104,3 +118,36 @@ pub record FitsLine (node : Node) : Type 0 where
 -- a tree that the format can say
 abbrev pub IsSpellable : Tree → Type 0
 IsSpellable tree = IsTree tree × ((key : List (List ℕ)) → IfSome (get tree key) FitsLine)
+
+-- a name that a line can say of a job file
+pub record IsJobName (name : List ℕ) : Type 0 where
+  pub some : 0 < length name
+  pub characters : all_scalars name ≡ true
+  pub one_field : list_all (λ b. not (b == 9 || b == 10)) (encode_utf8_all name) ≡ true
+
+-- job files by their folded names
+abbrev pub Jobs : Type 0
+Jobs = FinMap name_cmp (List ℕ)
+
+abbrev pub job_filed : JobText → List ℕ × List ℕ
+job_filed job = (folded job.0, job.1)
+
+-- these are the job files in the order of their folded names, each with some spelling of its name
+abbrev pub AreFiles : Jobs → List JobText → Type 0
+AreFiles jobs files = map job_filed files ≡ entries jobs
+
+-- what the format can say of a job file
+pub record FitsJob (job : JobText) : Type 0 where
+  pub name : IsJobName job.0
+  pub bytes : IsBytes job.1
+
+-- the text spells a moment, what a site tells and job files
+pub record Spells (text : List ℕ) (moment : ℕ) (told : Told) (jobs : Jobs) : Type 0 where
+  pub moment_fits : moment ≤ GREATEST_MOMENT
+  pub source_fits : IsSpellable told.source
+  pub target_fits : IsSpellable told.target
+  pub notes_fit : IsBytes told.notes
+  pub files : List JobText
+  pub filed : AreFiles jobs files
+  pub files_fit : AllByRecursion FitsJob files
+  pub spelled : text ≡ site_text moment told files

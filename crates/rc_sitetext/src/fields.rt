@@ -1,16 +1,34 @@
-//! The line of an entry, read field by field.
+//! The fields of a line, with a tab between them.
 
-ghost use Rattle.std.specs.Prelude.{◌≡◌, [], IfOk};
-ghost use Rattle.rc_mem.specs.Nodes.{node_of};
-ghost use Rattle.rc_sitetext.specs.Reading.{Gives, cut, field_at, kind_of, path_at, attr_at, number_at, security_at, audit_at, props_at, last_at, entry_at};
+ghost use Rattle.std.specs.Prelude.{◌≡◌, IfErr};
+ghost use Rattle.rc_sitetext.specs.Reading.{Gives, cut, last_field, value_behind, kind_of, last_texts, entry_texts, job_texts};
+ghost use Rattle.rc_sitetext.specs.Lines.{texts_of, last_of_texts};
 
-use crate::err::SiteTextErr;
-use crate::values::{GREATEST_SIZE, attr_of, content_of, number_of, path_of, security_of};
-use rc_mem::{SharedBytes, TreeNode};
-use rc_tree::{Attr, GREATEST_MOMENT, Kind, Moment, Path, Props, Security};
-use std::alloc::Global;
+use crate::err::ValueErr;
+use rc_tree::Kind;
 
-// What is left of a line: fields with a tab between them.
+/// The fields of an entry's line. A directory has the size 0 and the content of no bytes.
+#[derive(Clone, Copy, Debug)]
+pub(crate) struct EntryTexts<'a> {
+    pub(crate) kind: Kind,
+    pub(crate) path: &'a str,
+    pub(crate) attr: &'a str,
+    pub(crate) created: &'a str,
+    pub(crate) written: &'a str,
+    pub(crate) access: &'a str,
+    pub(crate) owner: &'a str,
+    pub(crate) last: LastTexts<'a>,
+}
+
+/// The last ones of them.
+#[derive(Clone, Copy, Debug)]
+pub(crate) struct LastTexts<'a> {
+    pub(crate) audit: &'a str,
+    pub(crate) size: &'a str,
+    pub(crate) content: &'a str,
+}
+
+// What is left of a line.
 #[derive(Drop)]
 struct Fields<'a> {
     rest: &'a str,
@@ -18,110 +36,72 @@ struct Fields<'a> {
 
 impl<'a> Fields<'a> {
     // The next field, where another one comes behind it.
-    fn next(&mut self) -> Result<&'a str, SiteTextErr>
-        ensures { Gives (λ f. (f.now, self.new.rest.now)) result (cut 9 self.old.rest.now) }
+    fn next(&mut self) -> Result<&'a str, ValueErr>
+        ensures field { Gives (λ f. (f.now, self.new.rest.now)) result
+            (cut 9 self.old.rest.now) }
+        ensures refused { IfErr result (λ e. e ≡ ValueErr.Refused) }
     {
         match self.rest.split_once('\t') {
             Some((field, rest)) => {
                 self.rest = rest;
                 Ok(field)
             }
-            None => Err(SiteTextErr::Refused),
+            None => Err(ValueErr::Refused),
         }
     }
 
-    #[tactic(auto, unfolding(crate::specs::Reading::field_at))]
-    fn attr(&mut self) -> Result<Attr, SiteTextErr>
-        ensures { Gives (λ a. (a, self.new.rest.now)) result (field_at attr_at self.old.rest.now) }
+    // The last field.
+    #[tactic(auto, unfolding(crate::specs::Reading::last_field))]
+    fn last(&self) -> Result<&'a str, ValueErr>
+        ensures field { Gives (λ f. f.now) result (last_field self.now.rest.now) }
+        ensures refused { IfErr result (λ e. e ≡ ValueErr.Refused) }
     {
-        attr_of(self.next()?)
-    }
-
-    #[tactic(auto, unfolding(crate::specs::Reading::field_at))]
-    fn moment(&mut self) -> Result<Moment, SiteTextErr>
-        ensures { Gives (λ m. (m, self.new.rest.now)) result
-            (field_at (number_at GREATEST_MOMENT) self.old.rest.now) }
-    {
-        let units = number_of(self.next()?, GREATEST_MOMENT)?;
-        Ok(Moment::new(units))
-    }
-
-    #[tactic(auto, unfolding(crate::specs::Reading::field_at))]
-    fn security(&mut self, alloc: Global) -> Result<Security, SiteTextErr>
-        ensures { Gives (λ s. (s, self.new.rest.now)) result
-            (field_at security_at self.old.rest.now) }
-    {
-        security_of(alloc, self.next()?)
-    }
-
-    #[tactic(auto, unfolding(crate::specs::Reading::field_at))]
-    fn kind(&mut self) -> Result<Kind, SiteTextErr>
-        ensures { Gives (λ k. (k, self.new.rest.now)) result
-            (field_at kind_of self.old.rest.now) }
-    {
-        kind_of(self.next()?)
-    }
-
-    #[tactic(auto, unfolding(crate::specs::Reading::field_at))]
-    fn path(&mut self, alloc: Global) -> Result<Path, SiteTextErr>
-        ensures { Gives (λ p. (p, self.new.rest.now)) result (field_at path_at self.old.rest.now) }
-    {
-        path_of(alloc, self.next()?)
-    }
-
-    // The last security string. Of a directory it is all that is left.
-    #[tactic(auto, unfolding(crate::specs::Reading::audit_at))]
-    fn audit(&mut self, alloc: Global, kind: Kind) -> Result<Security, SiteTextErr>
-        ensures { Gives (λ s. (s, self.new.rest.now)) result (audit_at kind self.old.rest.now) }
-    {
-        match kind {
-            Kind::File => self.security(alloc),
-            Kind::Dir => {
-                let audit = security_of(alloc, self.rest)?;
-                self.rest = "";
-                Ok(audit)
-            }
+        match self.rest.split_once('\t') {
+            Some(_) => Err(ValueErr::Refused),
+            None => Ok(self.rest),
         }
     }
 
-    #[tactic(auto, unfolding(crate::specs::Reading::props_at))]
-    fn props(&mut self, alloc: Global, kind: Kind) -> Result<Props, SiteTextErr>
-        ensures { Gives (λ p. (p, self.new.rest.now)) result (props_at kind self.old.rest.now) }
-    {
-        let attr = self.attr()?;
-        let created = self.moment()?;
-        let written = self.moment()?;
-        let access = self.security(alloc)?;
-        let owner = self.security(alloc)?;
-        let audit = self.audit(alloc, kind)?;
-        Ok(Props {
-            attr,
-            created,
-            written,
-            access,
-            owner,
-            audit,
-        })
-    }
-
-    // The size of a file and its content, which is all that is left. A directory has no bytes.
-    #[tactic(auto, unfolding(crate::specs::Reading::last_at, crate::specs::Reading::field_at))]
-    fn content(&mut self, alloc: Global, kind: Kind) -> Result<Vec<u8>, SiteTextErr>
-        ensures content { Gives (λ v. v.items) result (last_at kind self.old.rest.now) }
-        ensures no_bytes { kind ≡ Kind.Dir → IfOk result (λ v. v.items ≡ []) }
+    #[tactic(auto, unfolding(crate::specs::Reading::last_texts))]
+    fn last_texts(&mut self, kind: Kind) -> Result<LastTexts<'a>, ValueErr>
+        ensures { Gives last_of_texts result (last_texts kind self.old.rest.now) }
     {
         match kind {
-            Kind::Dir => Ok(Vec::new(alloc)),
+            Kind::Dir => Ok(LastTexts {
+                audit: self.last()?,
+                size: "0",
+                content: "-",
+            }),
             Kind::File => {
-                let size = number_of(self.next()?, GREATEST_SIZE)?;
-                content_of(alloc, size, self.rest)
+                let audit = self.next()?;
+                let size = self.next()?;
+                let content = self.last()?;
+                Ok(LastTexts {
+                    audit,
+                    size,
+                    content,
+                })
             }
         }
     }
 }
 
+/// The field behind `tag`, where the line has just these two.
+#[tactic(auto, unfolding(crate::specs::Reading::value_behind))]
+pub(crate) fn value_behind<'a>(line: &'a str, tag: &str) -> Result<&'a str, ValueErr>
+    ensures field { Gives (λ f. f.now) result (value_behind tag.now line.now) }
+    ensures refused { IfErr result (λ e. e ≡ ValueErr.Refused) }
+{
+    let mut fields = Fields { rest: line };
+    if fields.next()? == tag {
+        fields.last()
+    } else {
+        Err(ValueErr::Refused)
+    }
+}
+
 // The kind that this letter stands for.
-fn kind_of(text: &str) -> Result<Kind, SiteTextErr>
+fn kind_of(text: &str) -> Result<Kind, ValueErr>
     ensures { Gives (λ k. k) result (kind_of text.now) }
 {
     if text == "F" {
@@ -129,25 +109,52 @@ fn kind_of(text: &str) -> Result<Kind, SiteTextErr>
     } else if text == "D" {
         Ok(Kind::Dir)
     } else {
-        Err(SiteTextErr::Refused)
+        Err(ValueErr::Refused)
     }
 }
 
-/// The entry whose line this is.
-#[tactic(auto, unfolding(crate::specs::Reading::entry_at))]
-pub(crate) fn entry_of(alloc: Global, line: &str) -> Result<TreeNode, SiteTextErr>
-    ensures entry { Gives (λ n. (n.path, node_of n)) result (entry_at line.now) }
-    ensures no_bytes { IfOk result (λ n. n.kind ≡ Kind.Dir → n.bytes ≡ []) }
+/// The fields of an entry's line: ten of a file, eight of a directory.
+#[tactic(auto, unfolding(crate::specs::Reading::entry_texts))]
+pub(crate) fn entry_texts(line: &str) -> Result<EntryTexts<'_>, ValueErr>
+    ensures { Gives texts_of result (entry_texts line.now) }
 {
     let mut fields = Fields { rest: line };
-    let kind = fields.kind()?;
-    let path = fields.path(alloc)?;
-    let props = fields.props(alloc, kind)?;
-    let bytes = fields.content(alloc, kind)?;
-    Ok(TreeNode {
-        path,
+    let kind = kind_of(fields.next()?)?;
+    let path = fields.next()?;
+    let attr = fields.next()?;
+    let created = fields.next()?;
+    let written = fields.next()?;
+    let access = fields.next()?;
+    let owner = fields.next()?;
+    let last = fields.last_texts(kind)?;
+    Ok(EntryTexts {
         kind,
-        bytes: SharedBytes::new(alloc, bytes)?,
-        props,
+        path,
+        attr,
+        created,
+        written,
+        access,
+        owner,
+        last,
     })
+}
+
+/// The name and the bytes of a job file's line.
+#[derive(Clone, Copy, Debug)]
+pub(crate) struct JobTexts<'a> {
+    pub(crate) name: &'a str,
+    pub(crate) bytes: &'a str,
+}
+
+#[tactic(auto, unfolding(crate::specs::Reading::job_texts))]
+pub(crate) fn job_texts(line: &str) -> Result<JobTexts<'_>, ValueErr>
+    ensures { Gives (λ t. (t.name.now, t.bytes.now)) result (job_texts line.now) }
+{
+    let mut fields = Fields { rest: line };
+    if fields.next()? != "JOB" {
+        return Err(ValueErr::Refused);
+    }
+    let name = fields.next()?;
+    let bytes = fields.last()?;
+    Ok(JobTexts { name, bytes })
 }

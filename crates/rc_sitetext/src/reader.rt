@@ -1,221 +1,139 @@
 //! A site, read line by line.
 
-ghost use Rattle.std.specs.Prelude.{◌≡◌, ◌≤◌, ◌<◌, ◌==◌, ◌&&◌, ℕ, length, Some, IfOk, MatchResult};
-ghost use Rattle.rc_tree.specs.Tree as rc;
-ghost use Rattle.std.specs.List.{join_with_byte};
-ghost use Rattle.std.specs.FinMap.{empty};
-ghost use Rattle.std.specs.Str.{bytes_eq};
-ghost use Rattle.rc_tree.specs.Path.{parent_of};
-ghost use Rattle.rc_mem.specs.Directories.{is_dir_kind};
-ghost use Rattle.rc_sitetext.specs.SiteText.{IsSpellable, site_text};
-ghost use Rattle.rc_sitetext.specs.Reading.{Gives, lines_in, line_at, expect_at, moment_at, is_behind, last_key, added_at, entries_at, is_own_dir, is_within, are_same, site_at, text_at};
+ghost use Rattle.std.specs.Prelude.{◌≡◌, ◌<◌, ◌^◌, ◌∷◌, ◌==◌, ℕ, None, [], length, position, IfErr, IfOk, IfSome, MatchResult};
+ghost use Rattle.rc_volume.specs.Site.{Told};
+ghost use Rattle.rc_mem.specs.MemSite.{IsFreshSite, seen_by, told_by};
+ghost use Rattle.rc_sitetext.specs.Drafts.{seen};
+ghost use Rattle.rc_sitetext.specs.Faults.{Follows, Refuses, begun, ended, line_at, lines_in, text_fault, text_read_whole};
+ghost use Rattle.rc_sitetext.specs.SiteText.{Jobs, Spells};
 
-use crate::err::SiteTextErr;
-use crate::fields::entry_of;
+use crate::draft::Draft;
+use crate::err::{FaultKind, LineErr, SiteTextErr};
 use crate::site_file::SiteFile;
-use crate::values::number_of;
-use rc_mem::{Tree, TreeNode};
-use rc_tree::{GREATEST_MOMENT, Key, Kind, Name, NoMemory, Path};
+use rc_tree::NoMemory;
 use std::alloc::Global;
-use std::str;
 
-// What is left of a text: lines, each with its end.
-#[derive(Drop)]
-struct Lines<'a> {
-    rest: &'a str,
-}
-
-impl<'a> Lines<'a> {
-    // The next line, without its end.
-    fn next(&mut self) -> Result<&'a str, SiteTextErr>
-        ensures line { Gives (λ x. (x.now, lines_in self.new.rest.now)) result
-            (line_at (lines_in self.old.rest.now)) }
-        ensures shorter { IfOk result (λ _. length self.new.rest.now < length self.old.rest.now) }
-    {
-        match self.rest.split_once('\n') {
-            Some((line, rest)) => {
-                self.rest = rest;
-                Ok(line)
-            }
-            None => Err(SiteTextErr::Refused),
-        }
-    }
-
-    // Goes past a line that has to be this one.
-    #[tactic(auto, unfolding(crate::specs::Reading::expect_at))]
-    fn expect(&mut self, wanted: &str) -> Result<(), SiteTextErr>
-        ensures { Gives (λ _. lines_in self.new.rest.now) result
-            (expect_at wanted.now (lines_in self.old.rest.now)) }
-    {
-        if self.next()? == wanted {
-            Ok(())
-        } else {
-            Err(SiteTextErr::Refused)
-        }
-    }
-
-    fn is_done(&self) -> bool
-        ensures { result ≡ (length (join_with_byte 10 (lines_in self.now.rest.now)) == 0) }
-    {
-        self.rest.is_empty()
-    }
-
-    #[tactic(auto, unfolding(crate::specs::Reading::moment_at))]
-    fn moment(&mut self) -> Result<u64, SiteTextErr>
-        ensures value { Gives (λ m. (m, lines_in self.new.rest.now)) result
-            (moment_at (lines_in self.old.rest.now)) }
-        ensures bound { IfOk result (λ m. m ≤ GREATEST_MOMENT) }
-    {
-        match self.next()?.strip_prefix("MOMENT\t") {
-            Some(number) => number_of(number, GREATEST_MOMENT),
-            None => Err(SiteTextErr::Refused),
-        }
-    }
-
-    // The tree of the entries whose lines come before the line `end`, which is taken too.
-    fn entries(&mut self, alloc: Global, end: &str) -> Result<Tree, SiteTextErr>
-        ensures { Gives (λ t. (t, lines_in self.new.rest.now)) result
-            (entries_at end.now empty (lines_in self.old.rest.now)) }
-    {
-        let mut tree = Tree::new(alloc);
-        let mut last = None;
-        'lines: loop {
-            let line = self.next()?;
-            if line == end {
-                return Ok(tree);
-            }
-            last = Some(add_entry(alloc, &mut tree, &last, line)?);
-        }
-    }
-}
-
-// Adds the entry of a line behind those of the tree, whose last key this is, and answers the new last key.
-#[tactic(auto, using(crate::proofs::FieldValues::is_above_behind, crate::proofs::FieldValues::last_key_added), unfolding(crate::specs::Reading::added_at, crate::specs::Reading::may_come))]
-fn add_entry(
-    alloc: Global,
-    tree: &mut Tree,
-    last: &Option<Key>,
-    line: &str,
-) -> Result<Key, SiteTextErr>
-    requires { last_key tree.old ≡ last.now }
-    ensures added { Gives (λ _. tree.new) result (added_at tree.old line.now) }
-    ensures last { IfOk result (λ key. last_key tree.new ≡ Some key) }
-{
-    let node = entry_of(alloc, line)?;
-    let key = node.path.key(alloc)?;
-    if !is_behind(last, &key) || !is_within(alloc, tree, &node.path)? {
-        return Err(SiteTextErr::Refused);
-    }
-    tree.add(alloc, node)?;
-    Ok(key)
-}
-
-// Whether an entry may stand at a path: in the root, or in a directory of the tree, in the tree's own spelling.
-fn is_within(alloc: Global, tree: &Tree, path: &Path) -> Result<bool, NoMemory>
-    ensures { IfOk result (λ is. is ≡ is_within tree.now (parent_of path.now)) }
-{
-    let Some(dir) = path.parent(alloc)? else {
-        return Ok(false);
-    };
-    is_own_dir(alloc, tree, &dir)
-}
-
-// Whether this is the root, or a directory of the tree in the tree's own spelling.
-fn is_own_dir(alloc: Global, tree: &Tree, dir: &Path) -> Result<bool, NoMemory>
-    ensures { IfOk result (λ is. is ≡ is_own_dir tree.now dir.now) }
-{
-    if dir.names().is_empty() {
-        return Ok(true);
-    }
-    let key = dir.key(alloc)?;
-    match tree.at(&key) {
-        Some(node) => Ok(is_dir_at(node, dir)),
-        None => Ok(false),
-    }
-}
-
-// Whether a node is a directory at this path in this spelling.
-fn is_dir_at(node: &TreeNode, path: &Path) -> bool
-    ensures { result ≡ (is_dir_kind node.now.kind && are_same node.now.path path.now) }
-{
-    match node.kind {
-        Kind::Dir => are_same(node.path.names(), path.names()),
-        Kind::File => false,
-    }
-}
-
-// Whether these are the same names in the same spelling.
-fn are_same(some: &[Name], others: &[Name]) -> bool
-    ensures { result ≡ are_same some.now others.now }
-{
-    match some {
-        [] => others.is_empty(),
-        [first, rest @ ..] => match others {
-            [] => false,
-            [other, behind @ ..] => is_same(first, other) && are_same(rest, behind),
-        },
-    }
-}
-
-fn is_same(name: &Name, other: &Name) -> bool
-    ensures { result ≡ bytes_eq name.now other.now }
-{
-    name.text() == other.text()
-}
-
-// Whether a key comes behind the last one.
-fn is_behind(last: &Option<Key>, key: &Key) -> bool
-    ensures { result ≡ is_behind last.now key.now }
-{
-    match last {
-        Some(last) => last.cmp(key).is_lt(),
-        None => true,
-    }
-}
-
-/// The site that `text` spells.
+/// The site, the moment and the job files that `text` spells, or the first fault of a text that spells none: that of the
+/// first line that has one, and of that line the first in the order of [`FaultKind`].
 pub fn read_site(alloc: Global, text: &[u8]) -> Result<SiteFile, SiteTextErr>
     // What is read is spelled so.
-    ensures found { IfOk result (λ file. IsSpellable file.source × IsSpellable file.target
-        × (file.moment ≤ GREATEST_MOMENT)
-        × (text.now ≡ site_text file.moment file.source file.target)) }
+    ensures found { IfOk result
+        (λ file. Spells text.now file.moment (told_by file.site) file.jobs) }
+    ensures fresh { IfOk result (λ file. IsFreshSite (told_by file.site) (seen_by file.site)) }
     // What is spelled so is read, unless memory runs out.
-    ensures only { (moment : ℕ) (source target : rc.Tree) →
-        IsSpellable source → IsSpellable target → moment ≤ GREATEST_MOMENT →
-        text.now ≡ site_text moment source target →
+    ensures only { (moment : ℕ) (told : Told) (jobs : Jobs) → Spells text.now moment told jobs →
         MatchResult result
-        (λ file. (file.moment ≡ moment) × (file.source ≡ source) × (file.target ≡ target))
+        (λ file. (file.moment ≡ moment) × (told_by file.site ≡ told) × (file.jobs ≡ jobs))
         (λ e. e ≡ SiteTextErr.NoMemory) }
+    // It is refused exactly where it has a fault, by its first one.
+    ensures refused { Refuses result (text_fault text.now) }
 {
-    read_text(alloc, text)
-}
-
-fn read_text(alloc: Global, text: &[u8]) -> Result<SiteFile, SiteTextErr>
-    ensures { Gives (λ f. f) result (text_at text.now) }
-{
-    match str::from_utf8(text) {
-        Ok(text) => read_lines(alloc, text),
-        Err(_) => Err(SiteTextErr::Refused),
+    match read_draft(alloc, text) {
+        Ok(draft) => file_of(alloc, draft),
+        Err(e) => Err(e),
     }
 }
 
-#[tactic(auto, unfolding(crate::specs::Reading::site_at))]
-fn read_lines(alloc: Global, text: &str) -> Result<SiteFile, SiteTextErr>
-    ensures { Gives (λ f. f) result (site_at (lines_in text.now)) }
+// What the draft says.
+fn file_of(alloc: Global, draft: Draft) -> Result<SiteFile, SiteTextErr>
+    ensures moment { IfOk result (λ file. file.moment ≡ draft.moment) }
+    ensures told { IfOk result (λ file. told_by file.site
+        ≡ record { source = draft.source; target = draft.target; notes = draft.notes.items }) }
+    ensures jobs { IfOk result (λ file. file.jobs ≡ draft.jobs) }
+    ensures fresh { IfOk result (λ file. IsFreshSite (told_by file.site) (seen_by file.site)) }
+    ensures memory { IfErr result (λ e. e ≡ SiteTextErr.NoMemory) }
 {
-    let mut lines = Lines { rest: text };
-    lines.expect("SITE\t1")?;
-    let moment = lines.moment()?;
-    lines.expect("SOURCE")?;
-    let source = lines.entries(alloc, "TARGET")?;
-    let target = lines.entries(alloc, "RECORD\t-")?;
-    lines.expect("END")?;
-    if !lines.is_done() {
-        return Err(SiteTextErr::Refused);
+    match draft.into_file(alloc) {
+        Ok(file) => Ok(file),
+        Err(NoMemory) => Err(SiteTextErr::NoMemory),
     }
-    Ok(SiteFile {
-        moment,
-        source,
-        target,
+}
+
+// What all lines of the text say.
+fn read_draft(alloc: Global, text: &[u8]) -> Result<Draft, SiteTextErr>
+    ensures { Follows seen result (text_read_whole text.now) }
+{
+    keeps_length(text);
+    let mut draft = Draft::new(alloc);
+    let mut rest = text;
+    let mut number = 1;
+    'lines: while let Some(first) = first_line(rest) {
+        match draft.with_line(alloc, first.line) {
+            Ok(more) => draft = more,
+            Err(e) => return Err(line_at(number, e)),
+        }
+        rest = first.rest;
+        number += 1;
+    }
+    ended(number, draft, rest)
+}
+
+// No slice has more bytes than can be counted.
+fn keeps_length(text: &[u8])
+    ensures { length text.now < 2 ^ 63 }
+{
+    let _len = text.len();
+}
+
+// The first line of a text, without its end, and what comes behind it.
+#[derive(Clone, Copy, Debug)]
+struct FirstLine<'a> {
+    line: &'a [u8],
+    rest: &'a [u8],
+}
+
+fn first_line(text: &[u8]) -> Option<FirstLine<'_>>
+    ensures found { IfSome result (λ first.
+        lines_in text.now ≡ first.line.now ∷ lines_in first.rest.now) }
+    ensures shorter { IfSome result (λ first. length first.rest.now < length text.now) }
+    ensures last { result ≡ None → lines_in text.now ≡ text.now ∷ [] }
+{
+    match line_end(text) {
+        Some(end) => Some(FirstLine {
+            line: &text[..end],
+            rest: &text[end + 1..],
+        }),
+        None => None,
+    }
+}
+
+// Where the first line ends.
+fn line_end(text: &[u8]) -> Option<usize>
+    ensures { result ≡ position (λ b. b == 10) text.now }
+{
+    text.iter().position(|b| *b == b'\n')
+}
+
+// The fault of this line.
+fn line_at(line: u64, err: LineErr) -> SiteTextErr
+    ensures { result ≡ line_at line err }
+{
+    match err {
+        LineErr::Fault(kind) => SiteTextErr::At { line, kind },
+        LineErr::NoMemory => SiteTextErr::NoMemory,
+    }
+}
+
+// The draft, where the text ends behind its last line: `rest` is what comes behind the line end before this line.
+fn ended(line: u64, draft: Draft, rest: &[u8]) -> Result<Draft, SiteTextErr>
+    ensures { Follows seen result (ended line (seen draft) rest.now) }
+{
+    if draft.is_done() && rest.is_empty() {
+        return Ok(draft);
+    }
+    Err(SiteTextErr::At {
+        line: begun(line, rest),
+        kind: FaultKind::End,
     })
+}
+
+// The number of the last line that was begun.
+fn begun(line: u64, rest: &[u8]) -> u64
+    ensures { result ≡ begun line rest.now }
+{
+    if rest.is_empty() && line > 1 {
+        line - 1
+    } else {
+        line
+    }
 }

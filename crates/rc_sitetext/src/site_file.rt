@@ -1,11 +1,11 @@
 //! What a site text spells.
 
-use rc_mem::Tree;
+use rc_mem::{MemJobs, MemSite};
 
-/// What a site text says: a moment, in 100-nanosecond units since 1601, and the trees of the two sides.
+/// What a site text says: a site on which no call came yet, a moment, in 100-nanosecond units since 1601, and job files.
 #[derive(Debug, Drop)]
 pub struct SiteFile {
+    pub site: MemSite,
     pub moment: u64,
-    pub source: Tree,
-    pub target: Tree,
+    pub jobs: MemJobs,
 }

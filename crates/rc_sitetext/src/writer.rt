@@ -1,20 +1,22 @@
 //! A site, written line by line.
 
-ghost use Rattle.std.specs.Prelude.{◌≡◌, ◌<◌, ◌++◌, ◌∷◌, [], true, codes, OnOk, OnErr, string_bytes, if◌then◌else◌};
+ghost use Rattle.std.specs.Prelude.{◌≡◌, ◌<◌, ◌++◌, ◌∷◌, [], List, true, map, codes, IfOk, OnOk, OnErr, string_bytes, if◌then◌else◌};
 ghost use Rattle.std.specs.List.{flat_map, join_with_byte};
 ghost use Rattle.std.specs.Str.{encode_utf8_all};
 ghost use Rattle.hex.specs.Hex.{encode_lower};
 ghost use Rattle.rc_volume.specs.Faults.{RisesIf};
 ghost use Rattle.rc_volume.specs.Streams.{AppendsFront, sink_failed};
+ghost use Rattle.rc_mem.specs.MemSite.{told_by};
 ghost use Rattle.rc_mem.specs.Nodes.{node_of};
-ghost use Rattle.rc_sitetext.specs.SiteText.{letters, flags_of, marked, attr_text, hex_text, content_text, props_fields, kind_text, path_text, entry_line, tree_lines, head_text, site_text};
-ghost use Rattle.rc_sitetext.specs.Writing.{last_text, node_line};
+ghost use Rattle.rc_sitetext.specs.SiteText.{AreFiles, JobText, letters, flags_of, marked, attr_text, hex_text, content_text, props_fields, kind_text, path_text, entry_line, tree_lines, head_text, record_line, job_line, site_text};
+ghost use Rattle.rc_sitetext.specs.Writing.{job_bytes_line, job_text, jobs_text, last_text, node_line, target_text};
 
 use crate::values::is_repeated;
-use rc_mem::{Nodes, Tree, TreeNode};
-use rc_tree::{Attr, Kind, Name, Path, Props};
-use rc_volume::{Sink, SinkErr};
+use rc_mem::{JobBytes, MemJobs, MemSite, Nodes, Tree, TreeNode};
+use rc_tree::{Attr, Kind, Name, Path, Props, Text};
+use rc_volume::{Side, Sink, SinkErr};
 use std::alloc::{AllocError, Global};
+use std::collections::btree_map::Values;
 
 // Writes the letter where it is to be there.
 fn put_flag(line: &mut String, has: bool, letter: char) -> Result<(), AllocError>
@@ -253,24 +255,136 @@ fn send_side<K: Sink>(
     Ok(())
 }
 
-/// Writes the site text of a moment and two trees.
-pub fn write_site<K: Sink>(
+// The line of the record.
+fn record_text(alloc: Global, notes: &[u8]) -> Result<String, AllocError>
+    ensures { IfOk result (λ text. string_bytes text ≡ record_line notes.now) }
+{
+    let mut line = String::new(alloc);
+    put_record(alloc, &mut line, notes)?;
+    Ok(line)
+}
+
+fn put_record(alloc: Global, line: &mut String, notes: &[u8]) -> Result<(), AllocError>
+    ensures { OnOk result (string_bytes line.new ≡ string_bytes line.old ++ record_line notes.now) }
+{
+    line.push_str("RECORD\t")?;
+    put_security(alloc, line, notes)?;
+    line.push_str("\n")
+}
+
+// Writes the target's entries and the record.
+fn send_target<K: Sink>(
     alloc: Global,
     out: &mut K,
-    moment: u64,
-    source: &Tree,
-    target: &Tree,
+    line: &mut String,
+    site: &MemSite,
+) -> Result<(), SinkErr>
+    ensures written { K.tells ≡ true → OnOk result (K.received out.new
+        ≡ K.received out.old ++ target_text (told_by site.now)) }
+    ensures front { K.tells ≡ true → OnErr result (AppendsFront (K.received out.old)
+        (target_text (told_by site.now)) (K.received out.new)) }
+    ensures cause { RisesIf (sink_failed result) (K.faults out.old) (K.faults out.new) }
+{
+    let Ok(end) = record_text(alloc, site.notes()) else {
+        return Err(SinkErr::NoMemory);
+    };
+    send_side(alloc, out, line, site.tree(Side::Target), &end)
+}
+
+// Writes the line of a job file.
+fn put_job(alloc: Global, line: &mut String, job: &JobBytes) -> Result<(), AllocError>
+    ensures { OnOk result
+        (string_bytes line.new ≡ string_bytes line.old ++ job_line (job_text job.now)) }
+{
+    line.push_str("JOB\t")?;
+    line.push_str(job.name.text())?;
+    line.push('\t')?;
+    put_security(alloc, line, &job.bytes)?;
+    line.push_str("\n")?;
+    Ok(())
+}
+
+// Writes it to the sink, in the room of `line`.
+fn send_job<K: Sink>(
+    alloc: Global,
+    out: &mut K,
+    line: &mut String,
+    job: &JobBytes,
 ) -> Result<(), SinkErr>
     ensures written { K.tells ≡ true → OnOk result
-        (K.received out.new ≡ K.received out.old ++ site_text moment source.now target.now) }
+        (K.received out.new ≡ K.received out.old ++ job_line (job_text job.now)) }
     ensures front { K.tells ≡ true → OnErr result
-        (AppendsFront (K.received out.old) (site_text moment source.now target.now)
+        (AppendsFront (K.received out.old) (job_line (job_text job.now)) (K.received out.new)) }
+    ensures cause { RisesIf (sink_failed result) (K.faults out.old) (K.faults out.new) }
+{
+    line.clear();
+    if put_job(alloc, line, job).is_err() {
+        return Err(SinkErr::NoMemory);
+    }
+    out.write(alloc, line.as_bytes())
+}
+
+// Writes the lines of job files, each in the room of `line`.
+fn send_files<K: Sink>(
+    alloc: Global,
+    out: &mut K,
+    line: &mut String,
+    files: Values<'_, Text, JobBytes>,
+) -> Result<(), SinkErr>
+    ensures written { K.tells ≡ true → OnOk result
+        (K.received out.new ≡ K.received out.old ++ flat_map job_bytes_line files.entry) }
+    ensures front { K.tells ≡ true → OnErr result
+        (AppendsFront (K.received out.old) (flat_map job_bytes_line files.entry)
         (K.received out.new)) }
     ensures cause { RisesIf (sink_failed result) (K.faults out.old) (K.faults out.new) }
 {
+    for job in files {
+        send_job(alloc, out, line, job)?;
+    }
+    Ok(())
+}
+
+// Writes the lines of the job files and the end.
+fn send_jobs<K: Sink>(
+    alloc: Global,
+    out: &mut K,
+    line: &mut String,
+    files: Values<'_, Text, JobBytes>,
+) -> Result<(), SinkErr>
+    ensures written { K.tells ≡ true → OnOk result
+        (K.received out.new ≡ K.received out.old ++ jobs_text (map job_text files.entry)) }
+    ensures front { K.tells ≡ true → OnErr result (AppendsFront (K.received out.old)
+        (jobs_text (map job_text files.entry)) (K.received out.new)) }
+    ensures cause { RisesIf (sink_failed result) (K.faults out.old) (K.faults out.new) }
+{
+    send_files(alloc, out, line, files)?;
+    out.write(alloc, "END\n".as_bytes())?;
+    Ok(())
+}
+
+/// Writes the site text of a site, a moment and job files.
+pub fn write_site<K: Sink>(
+    alloc: Global,
+    out: &mut K,
+    site: &MemSite,
+    moment: u64,
+    jobs: &MemJobs,
+) -> Result<(), SinkErr>
+    ensures written { K.tells ≡ true → OnOk result ((files : List JobText)
+        × AreFiles jobs.now files
+        × (K.received out.new ≡ K.received out.old
+        ++ site_text moment (told_by site.now) files)) }
+    ensures front { K.tells ≡ true → OnErr result ((files : List JobText)
+        × AreFiles jobs.now files
+        × AppendsFront (K.received out.old) (site_text moment (told_by site.now) files)
+        (K.received out.new)) }
+    ensures cause { RisesIf (sink_failed result) (K.faults out.old) (K.faults out.new) }
+{
+    let files = jobs.files();
     let mut line = String::new(alloc);
     send_head(alloc, out, &mut line, moment)?;
-    send_side(alloc, out, &mut line, source, "TARGET\n")?;
-    send_side(alloc, out, &mut line, target, "RECORD\t-\nEND\n")?;
+    send_side(alloc, out, &mut line, site.tree(Side::Source), "TARGET\n")?;
+    send_target(alloc, out, &mut line, site)?;
+    send_jobs(alloc, out, &mut line, files)?;
     Ok(())
 }

@@ -1,58 +1,38 @@
-use Rattle.std.proofs.Common.{◌≡◌, List, ℕ, Err, ap, drop}
+use Rattle.std.proofs.Common.{List, ℕ, ◌∙◌, sym}
 use Rattle.rc_volume.specs.Faults.{RoseBy}
-use Rattle.drill.specs.Drilling.{Drills, OfSome}
-use Rattle.drill.proofs.Drills.{file_drilled, of_told, stop_drilled, stop_read, stop_rose}
-use Rattle.rc_jobfiles.specs.Ask.{texts}
+use Rattle.rc_drillwords.specs.Asking.{spellings}
+use Rattle.drill.proofs.Drills.{argument_drilled, drilled_told, memory_drilled, none_some, reads_unless}
 use Rattle.drill.proofs.run.drill_run.Goals as goal
+
+pub returns-in-Ok-clause-answered : goal.returns-in-Ok-clause-answered
+returns-in-Ok-clause-answered g c = c.drill_asked.ensures.answered (spellings c.args.args.now) c.in-Ok.ensures.refused c.in-Ok.ensures.asked
 
 pub returns-in-Ok-clause-drilled : goal.returns-in-Ok-clause-drilled
 returns-in-Ok-clause-drilled g c = λ reads hears.
-    let words : List (List ℕ) = texts c.args.args.now in
-    let rest : List ℕ = g.I.Input.rest c.args.input.now in
-    let old : List ℕ = g.K.Sink.received c.args.out.now in
-    let new : List ℕ = g.K.Sink.received c.run_file.new.out in
-    let input_failed : Type 0 = RoseBy 1 (g.I.Input.faults c.args.input.now) (g.I.Input.faults c.read_file.new.input) in
-    let output_failed : Type 0 = RoseBy 1 (g.K.Sink.faults c.args.out.now) (g.K.Sink.faults c.run_file.new.out) in
-    of_told g.K.Sink.tells new (λ x. Drills input_failed output_failed words rest old x c.run_file.result) hears
-    (of_told g.I.Input.tells rest (λ text. OfSome g.K.Sink.tells new (λ x. Drills input_failed output_failed words text old x c.run_file.result)) reads
-    (file_drilled g.I.Input.tells g.K.Sink.tells input_failed output_failed words rest c.in-Ok.file old new c.run_file.result c.in-Ok.ensures.file c.run_file.ensures.written))
-
-pub returns-in-Ok-clause-answered : goal.returns-in-Ok-clause-answered
-returns-in-Ok-clause-answered g c =
-    let words : List (List ℕ) = texts c.args.args.now in
-    let rest : List ℕ = g.I.Input.rest c.args.input.now in
-    let old : List ℕ = g.K.Sink.received c.args.out.now in
-    let new : List ℕ = g.K.Sink.received c.run_file.new.out in
-    let input_failed : Type 0 = RoseBy 1 (g.I.Input.faults c.args.input.now) (g.I.Input.faults c.read_file.new.input) in
-    let output_failed : Type 0 = RoseBy 1 (g.K.Sink.faults c.args.out.now) (g.K.Sink.faults c.run_file.new.out) in
-    file_drilled g.I.Input.tells g.K.Sink.tells input_failed output_failed words rest c.in-Ok.file old new c.run_file.result c.in-Ok.ensures.file c.run_file.ensures.written
+    drilled_told g.I.Input.tells g.K.Sink.tells (RoseBy 1 (g.I.Input.faults c.args.input.now) (g.I.Input.faults c.drill_asked.new.input)) (RoseBy 1 (g.K.Sink.faults c.args.out.now) (g.K.Sink.faults c.drill_asked.new.out)) (spellings c.args.args.now)
+    (g.I.Input.rest c.args.input.now) (g.K.Sink.received c.args.out.now) (g.K.Sink.received c.drill_asked.new.out) c.drill_asked.result
+    (c.drill_asked.ensures.answered (spellings c.args.args.now) c.in-Ok.ensures.refused c.in-Ok.ensures.asked) reads hears
 
 pub returns-in-Ok-clause-read : goal.returns-in-Ok-clause-read
-returns-in-Ok-clause-read g c = λ reads never enough. c.in-Ok.ensures.read reads
+returns-in-Ok-clause-read g c = λ reads input never enough. c.drill_asked.ensures.read reads (c.in-Ok.ensures.asked.number ∙ input.number) never enough
 
-pub returns-in-Err-clause-drilled : goal.returns-in-Err-clause-drilled
-returns-in-Err-clause-drilled g c = λ reads hears.
-    let words : List (List ℕ) = texts c.args.args.now in
-    let rest : List ℕ = g.I.Input.rest c.args.input.now in
-    let old : List ℕ = g.K.Sink.received c.args.out.now in
-    let new : List ℕ = g.K.Sink.received c.refuse.new.out in
-    let input_failed : Type 0 = RoseBy 1 (g.I.Input.faults c.args.input.now) (g.I.Input.faults c.read_file.new.input) in
-    let output_failed : Type 0 = RoseBy 1 (g.K.Sink.faults c.args.out.now) (g.K.Sink.faults c.refuse.new.out) in
-    of_told g.K.Sink.tells new (λ x. Drills input_failed output_failed words rest old x c.refuse.result) hears
-    (of_told g.I.Input.tells rest (λ text. OfSome g.K.Sink.tells new (λ x. Drills input_failed output_failed words text old x c.refuse.result)) reads
-    (stop_drilled c.in-Err.stop g.I.Input.tells g.K.Sink.tells input_failed output_failed words rest old new c.refuse.result (stop_rose c.in-Err.stop (g.I.Input.faults c.args.input.now) (g.I.Input.faults c.read_file.new.input) c.in-Err.ensures.cause) (λ h. c.in-Err.ensures.refused (ap (λ e. Err e) h)) c.refuse.ensures.written c.refuse.ensures.silent))
+pub returns-in-Ok-clause-unread : goal.returns-in-Ok-clause-unread
+returns-in-Ok-clause-unread g c = λ not. c.drill_asked.ensures.unread (reads_unless (spellings c.args.args.now) c.in-Ok.asked c.in-Ok.ensures.refused c.in-Ok.ensures.asked not)
 
-pub returns-in-Err-clause-answered : goal.returns-in-Err-clause-answered
-returns-in-Err-clause-answered g c =
-    let words : List (List ℕ) = texts c.args.args.now in
-    let rest : List ℕ = g.I.Input.rest c.args.input.now in
-    let old : List ℕ = g.K.Sink.received c.args.out.now in
-    let new : List ℕ = g.K.Sink.received c.refuse.new.out in
-    let input_failed : Type 0 = RoseBy 1 (g.I.Input.faults c.args.input.now) (g.I.Input.faults c.read_file.new.input) in
-    let output_failed : Type 0 = RoseBy 1 (g.K.Sink.faults c.args.out.now) (g.K.Sink.faults c.refuse.new.out) in
-    stop_drilled c.in-Err.stop g.I.Input.tells g.K.Sink.tells input_failed output_failed words rest old new c.refuse.result (stop_rose c.in-Err.stop (g.I.Input.faults c.args.input.now) (g.I.Input.faults c.read_file.new.input) c.in-Err.ensures.cause) (λ h. c.in-Err.ensures.refused (ap (λ e. Err e) h)) c.refuse.ensures.written c.refuse.ensures.silent
+pub returns-in-Err-Bad-clause-answered : goal.returns-in-Err-Bad-clause-answered
+returns-in-Err-Bad-clause-answered g c =
+    argument_drilled g.I.Input.tells g.K.Sink.tells _ _ (spellings c.args.args.now) c.in-Err-Bad.place (g.I.Input.rest c.args.input.now) (g.K.Sink.received c.args.out.now) (g.K.Sink.received c.refuse_argument.new.out) c.refuse_argument.result
+    (rw c.in-Err-Bad.field-0-is at c.in-Err-Bad.ensures.refused) c.refuse_argument.ensures.written
 
-pub returns-in-Err-clause-read : goal.returns-in-Err-clause-read
-returns-in-Err-clause-read g c = λ reads never enough.
-    let input_failed : Type 0 = RoseBy 1 (g.I.Input.faults c.args.input.now) (g.I.Input.faults c.read_file.new.input) in
-    stop_read c.in-Err.stop input_failed (g.I.Input.rest c.read_file.new.input ≡ drop 268435457 (g.I.Input.rest c.args.input.now)) c.refuse.result (stop_rose c.in-Err.stop (g.I.Input.faults c.args.input.now) (g.I.Input.faults c.read_file.new.input) c.in-Err.ensures.cause) never (λ h. (c.refuse.ensures.silent h).1) enough (λ h. c.in-Err.ensures.read_all reads (ap (λ e. Err e) h))
+pub returns-in-Err-Bad-clause-drilled : goal.returns-in-Err-Bad-clause-drilled
+returns-in-Err-Bad-clause-drilled g c = λ reads hears.
+    drilled_told g.I.Input.tells g.K.Sink.tells (RoseBy 1 (g.I.Input.faults c.args.input.now) (g.I.Input.faults c.args.input.now)) (RoseBy 1 (g.K.Sink.faults c.args.out.now) (g.K.Sink.faults c.refuse_argument.new.out)) (spellings c.args.args.now)
+    (g.I.Input.rest c.args.input.now) (g.K.Sink.received c.args.out.now) (g.K.Sink.received c.refuse_argument.new.out) c.refuse_argument.result
+    (argument_drilled g.I.Input.tells g.K.Sink.tells (RoseBy 1 (g.I.Input.faults c.args.input.now) (g.I.Input.faults c.args.input.now)) (RoseBy 1 (g.K.Sink.faults c.args.out.now) (g.K.Sink.faults c.refuse_argument.new.out)) (spellings c.args.args.now) c.in-Err-Bad.place (g.I.Input.rest c.args.input.now) (g.K.Sink.received c.args.out.now) (g.K.Sink.received c.refuse_argument.new.out) c.refuse_argument.result
+    (rw c.in-Err-Bad.field-0-is at c.in-Err-Bad.ensures.refused) c.refuse_argument.ensures.written) reads hears
+
+pub returns-in-Err-Bad-clause-read : goal.returns-in-Err-Bad-clause-read
+returns-in-Err-Bad-clause-read g c = λ reads input never enough. absurd (none_some (sym input.good ∙ (rw c.in-Err-Bad.field-0-is at c.in-Err-Bad.ensures.refused)))
+
+pub returns-in-Err-NoMemory-clause-answered : goal.returns-in-Err-NoMemory-clause-answered
+returns-in-Err-NoMemory-clause-answered g c = memory_drilled g.I.Input.tells g.K.Sink.tells _ _ (spellings c.args.args.now) (g.I.Input.rest c.args.input.now) (g.K.Sink.received c.args.out.now)
