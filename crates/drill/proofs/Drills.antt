@@ -1,21 +1,19 @@
 -- What a drill did: of which arguments and which text it is one.
-use Rattle.std.proofs.Common.{◌≡◌, ◌⊎◌, ℕ, Bool, true, false, List, [], ◌∷◌, ◌++◌, map, Option, Some, None, Result, Ok, Err, inl, inr, refl, sym, ap, subst, ◌∙◌, is_some, String, string_bytes, chars}
-use Rattle.std.specs.Prelude.{IfErr}
+use Rattle.std.proofs.Common.{◌≡◌, ◌⊎◌, ℕ, Bool, true, List, [], ◌∷◌, map, Option, Some, None, Err, inl, inr, refl, sym, ap, subst, ◌∙◌, is_some, String, string_bytes, chars}
 use Rattle.rc_volume.specs.Faults.{RisesIf, RoseBy}
 use Rattle.rc_jobfiles.specs.Ask.{texts}
 use Rattle.rc_sitetext.specs.declared.site_file.SiteFile.{SiteFile}
 use Rattle.rc_drillwords.specs.declared.arguments.Asked.{Asked}
 use Rattle.rc_drillwords.specs.declared.reading.FailingCall.{FailingCall}
 use Rattle.rc_drillwords.specs.declared.reading.FailingReads.{FailingReads}
-use Rattle.rc_drillwords.specs.Asking.{IsAsked, calls_asked, first_bad, number_asked, reads_asked, spellings, words_in}
+use Rattle.rc_drillwords.specs.Asking.{IsAsked, calls_asked, first_bad, number_asked, reads_asked, spellings}
 use Rattle.drill.specs.declared.begin.Stop.{Stop}
 use Rattle.drill.specs.declared.begin.Stop.TheVariants.{Input, SiteText, NoMemory}
-use Rattle.drill.specs.Drilling.{Begins, Drills, EndsBy, OfSome, Prints, ReadsInput, WritesOne, WritesOut, run_words}
+use Rattle.drill.specs.Drilling.{Begins, Drills, EndsBy, OfSome, ReadsInput, WritesOne, WritesOut, run_words}
 use Rattle.drill.specs.Finishing.{EndsAsked, IsPrinted, IsStop, ShowsAsked, end_of, refuses_text, stop_failed, stop_line}
 use Rattle.drill.specs.Printed.{Shows, argument_line, drill_text}
-use Rattle.drill.specs.Runs.{End, Start}
+use Rattle.drill.specs.Runs.{Start}
 use Rattle.drill.specs.declared.output.Printing.{Printing}
-use Rattle.rc_sitetext.specs.SiteText.{AreFiles, Jobs}
 use Rattle.drill.proofs.ReadTexts.{of_told}
 
 -- Stops
@@ -40,13 +38,13 @@ texts_are (word ∷ words) = ap (λ (ws : List (List ℕ)). chars (string_bytes 
 
 -- what a run of what is asked says, said of the arguments
 shows_asked : (args : List (List ℕ)) (asked : Asked) (start : Start) (printed : List ℕ) (status : ℕ) → IsAsked args asked → ShowsAsked asked start printed status
-    → Shows (is_some (number_asked args)) start (EndsBy (calls_asked args) (reads_asked args) (run_words args) start.moment start.told) printed status
+    → Shows (is_some (number_asked args)) start.moment (EndsBy (calls_asked args) (reads_asked args) (run_words args) start) printed status
 shows_asked args asked start printed status is shows = record {
   end = shows.end;
   ends =
-      subst (λ (calls : List FailingCall). EndsBy calls (reads_asked args) (run_words args) start.moment start.told shows.end) is.calls
-      (subst (λ (reads : List FailingReads). EndsBy asked.calls.items reads (run_words args) start.moment start.told shows.end) is.reads
-      (subst (λ (words : List (List ℕ)). EndsBy asked.calls.items asked.reads.items words start.moment start.told shows.end) (texts_are asked.words.items ∙ ap (λ (ws : List (List ℕ)). map chars ws) is.words) shows.ends));
+      subst (λ (calls : List FailingCall). EndsBy calls (reads_asked args) (run_words args) start shows.end) is.calls
+      (subst (λ (reads : List FailingReads). EndsBy asked.calls.items reads (run_words args) start shows.end) is.reads
+      (subst (λ (words : List (List ℕ)). EndsBy asked.calls.items asked.reads.items words start shows.end) (texts_are asked.words.items ∙ ap (λ (ws : List (List ℕ)). map chars ws) is.words) shows.ends));
   files = shows.files;
   filed = shows.filed;
   text = subst (λ (number : Option ℕ). printed ≡ drill_text (is_some number) start.moment shows.files shows.end) is.number shows.text;
@@ -56,28 +54,28 @@ shows_asked args asked start printed status is shows = record {
 pub none_some : {n : ℕ} → ◌≡◌ {A = Option ℕ} None (Some n) → ⊥
 none_some e = cc
 
--- what is printed of a run that ended so, of this moment and these job files
-pub shows_printed : (asked : Asked) (start : Start) (printing : Printing) (printed : List ℕ) (answer : ℕ) → EndsAsked asked start (end_of printing.finished) → printing.digests ≡ is_some asked.number → printing.moment ≡ start.moment → printing.jobs ≡ start.jobs → IsPrinted printing printed answer → ShowsAsked asked start printed answer
-shows_printed asked start printing printed answer ends digests moment jobs is = record {
-  end = end_of printing.finished;
+-- what is printed of a run that ended so, of this moment
+pub shows_printed : (asked : Asked) (start : Start) (printing : Printing) (printed : List ℕ) (answer : ℕ) → EndsAsked asked start (end_of printing.finished printing.jobs) → printing.digests ≡ is_some asked.number → printing.moment ≡ start.moment → IsPrinted printing printed answer → ShowsAsked asked start printed answer
+shows_printed asked start printing printed answer ends digests moment is = record {
+  end = end_of printing.finished printing.jobs;
   ends = ends;
   files = is.files;
-  filed = subst (λ (js : Jobs). AreFiles js is.files) jobs is.filed;
+  filed = is.filed;
   text =
-      is.text ∙ ap (λ (d : Bool). drill_text d printing.moment is.files (end_of printing.finished)) digests
-      ∙ ap (λ (m : ℕ). drill_text (is_some asked.number) m is.files (end_of printing.finished)) moment;
+      is.text ∙ ap (λ (d : Bool). drill_text d printing.moment is.files (end_of printing.finished printing.jobs)) digests
+      ∙ ap (λ (m : ℕ). drill_text (is_some asked.number) m is.files (end_of printing.finished printing.jobs)) moment;
   answer = is.is;
 }
 
-pub shows_one : (tells : Bool) (asked : Asked) (start : Start) (printing : Printing) (failed : Type 0) (old new : List ℕ) (status : ℕ) → EndsAsked asked start (end_of printing.finished) → printing.digests ≡ is_some asked.number → printing.moment ≡ start.moment → printing.jobs ≡ start.jobs
+pub shows_one : (tells : Bool) (asked : Asked) (start : Start) (printing : Printing) (failed : Type 0) (old new : List ℕ) (status : ℕ) → EndsAsked asked start (end_of printing.finished printing.jobs) → printing.digests ≡ is_some asked.number → printing.moment ≡ start.moment
     → OfSome tells new (λ x. WritesOne (IsPrinted printing) failed old x status) → OfSome tells new (λ x. WritesOne (ShowsAsked asked start) failed old x status ⊎ ((x ≡ old) × (status ≡ 32)))
-shows_one tells asked start printing failed old new status ends digests moment jobs some = (
+shows_one tells asked start printing failed old new status ends digests moment some = (
   some.0,
   some.1,
   inl (record {
     printed = some.2.printed;
     answer = some.2.answer;
-    is_printed = shows_printed asked start printing some.2.printed some.2.answer ends digests moment jobs some.2.is_printed;
+    is_printed = shows_printed asked start printing some.2.printed some.2.answer ends digests moment some.2.is_printed;
     writes = some.2.writes;
   }),
 )

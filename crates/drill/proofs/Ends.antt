@@ -1,40 +1,44 @@
 -- How a run over a site in memory ended.
 use Rattle.std.proofs.Common.{◌≡◌, ◌⊎◌, ℕ, ◌<◌, Bool, true, false, List, [], ◌||◌, Option, Some, None, Result, Ok, Err, inl, inr, refl, sym, ap, subst, ◌∙◌, arith, true≢false}
-use Rattle.std.specs.Prelude.{IfErr, IfOk, nat_lt, option_map, if◌then◌else◌}
+use Rattle.std.specs.Prelude.{nat_lt, option_map, if◌then◌else◌}
 use Rattle.std.specs.List.{count_by}
 use Rattle.rc_volume.specs.Faults.{RoseBy}
-use Rattle.rc_volume.specs.Site.{Told}
+use Rattle.rc_volume.specs.Site.{Seen, Told}
+use Rattle.rc_volume.specs.Streams.{AppendsFront}
+use Rattle.rc_volume.specs.Waits.{Paused}
 use Rattle.rc_mem.specs.declared.site.MemSite.{MemSite}
 use Rattle.rc_mem.specs.MemSite.{told_by}
+use Rattle.rc_jobfiles.specs.declared.resolving.Resolved.{Resolved}
 use Rattle.rc_run.specs.declared.outcome.Outcome.{Outcome}
 use Rattle.rc_run.specs.declared.outcome.Outcome.TheVariants as out
 use Rattle.rc_run.specs.declared.outcome.Unbuilt.TheVariants as unbuilt
-use Rattle.rc_run.specs.Answers.{Answers, IsExpected, IsInMode, IsSilentBefore, RunLeaves, Sends, bits_in, is_empty, report_in, site_refusal, start_refusal, unplanned}
+use Rattle.rc_run.specs.Answers.{IsExpected, IsInMode, IsSilentBefore, RunLeaves, Sends, bits_in, is_empty, site_refusal, start_refusal, unplanned}
+use Rattle.rc_run.specs.Keeping.{Keeps, ShowsJob, job_bytes}
+use Rattle.rc_run.specs.Mirroring.{Mirrors}
 use Rattle.rc_run.specs.Outcome.{IfDone, IfReported, at_copies, at_report, ending, is_reported, last_step}
-use Rattle.rc_run.specs.Words.{asked}
+use Rattle.rc_run.specs.Words.{IfRefused, IfRun, IfShown, asked}
 use Rattle.rc_class.specs.declared.item.Item.{Item}
 use Rattle.rc_filter.specs.Acts.{copies_bytes}
 use Rattle.rc_filter.specs.Decided.{planned_items}
 use Rattle.rc_plan.specs.declared.plan.PlanErr.{PlanErr}
 use Rattle.rc_plan.specs.declared.plan.PlanErr.TheVariants as plan_err
 use Rattle.rc_plan.specs.Limits.{first_too_big, has_source, has_target, limit_of, too_big}
-use Rattle.rc_plan.specs.Plan.{limit_in, start_in}
+use Rattle.rc_plan.specs.Plan.{limit_in}
 use Rattle.rc_volume.specs.declared.site.Side.TheVariants as side
 use Rattle.rc_job.specs.declared.job.Job.{Job}
-use Rattle.drill.specs.Runs.{End, IsCutIn, IsCutShort, IsRun}
+use Rattle.rc_sitetext.specs.SiteText.{Jobs}
+use Rattle.drill.specs.Finishing.{start_at}
+use Rattle.drill.specs.Runs.{End, Ends, IsCutIn, IsCutShort, IsCutShown, IsRefused, IsRun, Start}
 
 -- by the rules, or for want of memory
-abbrev pub EndsWell : List (List ℕ) → ℕ → Told → End → Type 0
-EndsWell words moment start end = IsRun words moment start end ⊎ IsCutShort words moment start end
+abbrev pub EndsWell : List (List ℕ) → Start → End → Type 0
+EndsWell words start end = IsRun words start end ⊎ IsCutShort words start end
 
-abbrev pub an_end : List ℕ → Outcome → Told → End
-an_end report outcome now = record { report = report; outcome = outcome; now = now }
+abbrev pub an_end : List ℕ → Outcome → Told → Jobs → End
+an_end report outcome now jobs = record { report = report; outcome = outcome; now = now; jobs = jobs }
 
 pub never : RoseBy 1 0 0 → ⊥
 never h = omega (arith, h)
-
-refused_end : (words : List (List ℕ)) (moment : ℕ) (start now : Told) (outcome : Outcome) (report : List ℕ) → start_refusal (asked words) start moment ≡ Some outcome → report ≡ [] → now ≡ start → EndsWell words moment start (an_end report outcome now)
-refused_end words moment start now outcome report refused silent same = inl (inl (record { refused = refused; report = silent; now = same }))
 
 -- a site is refused before anything is changed or reported
 limit_early : (with_bytes : Bool) (items : List Item) (e : PlanErr) → limit_of with_bytes items ≡ Some e → last_step (ending (unplanned e)) < at_copies
@@ -61,112 +65,161 @@ refused_early job told moment refusal e = by (job.list_only || is_empty told.not
     by true (Some e) is h = subst (λ (o : Outcome). last_step (ending o) < at_copies) (same (unplanned e) refusal h) (limit_early (copies_bytes job) (planned_items job told.source told.target moment) e is)
     by false passed is h = subst (λ (o : Outcome). last_step (ending o) < at_copies) (same (out.NotYet unbuilt.Record) refusal h) (omega arith)
 
--- what a run over a site in memory says, of which nothing fails
-pub record Runs (words : List (List ℕ)) (moment : ℕ) (start now : Told) (outcome : Outcome) (before report : List ℕ) : Type 0 where
-  pub untouched : IfErr (asked words) (λ refusal. (now ≡ start) × (report ≡ before))
-  pub expected : IsExpected (start_refusal (asked words) start moment) outcome
-  pub leaves : IfOk (asked words) (λ job. RunLeaves job moment start now outcome)
-  pub sends : IfOk (asked words) (λ job. Sends job moment start outcome before report)
-  pub reported : IfOk (asked words) (λ job. IsSilentBefore before report job moment start now)
-  pub mode : IfOk (asked words) (λ job. IsInMode job outcome)
-  pub bits : IfOk (asked words) (λ job. IfReported outcome (λ bits. bits ≡ bits_in job start moment))
-  pub begun : IfDone outcome (λ bits at. at ≡ moment)
-  pub silent : last_step (ending outcome) < at_report → report ≡ before
+-- What a run over a site in memory says, of which nothing fails
 
-cut_end : (words : List (List ℕ)) (moment : ℕ) (start now : Told) (outcome : Outcome) (report : List ℕ) → Runs words moment start now outcome [] report → outcome ≡ out.NoMemory → EndsWell words moment start (an_end report outcome now)
-cut_end words moment start now outcome report r same = inr (record {
+-- of a job that is run
+pub record Did (job : Job) (start : Start) (end : End) (before : List ℕ) : Type 0 where
+  pub leaves : RunLeaves job start.moment start.told end.now end.outcome
+  pub sends : Sends job start.moment start.told end.outcome before end.report
+  pub reported : IsSilentBefore before end.report job start.moment start.told end.now
+  pub mode : IsInMode job end.outcome
+  pub bits : IfReported end.outcome (λ bits. bits ≡ bits_in job start.told start.moment)
+
+-- of a job that is shown
+pub record Showed (job : Job) (start : Start) (end : End) (before : List ℕ) : Type 0 where
+  pub shows : ShowsJob true job end.outcome before end.report
+  pub now : end.now ≡ start.told
+
+-- and of words that are refused
+pub record Stayed (start : Start) (end : End) (before : List ℕ) : Type 0 where
+  pub now : end.now ≡ start.told
+  pub report : end.report ≡ before
+
+-- by what its words ask for
+pub record Said (words : List (List ℕ)) (start : Start) (end : End) (before : List ℕ) : Type 0 where
+  pub refused : IfRefused (asked words start.jobs) (λ refusal. Stayed start end before)
+  pub shown : IfShown (asked words start.jobs) (λ job. Showed job start end before)
+  pub run : IfRun (asked words start.jobs) (λ job. Did job start end before)
+  pub expected : IsExpected (start_refusal (asked words start.jobs) start.told start.moment) end.outcome
+  pub begun : IfDone end.outcome (λ bits at. at ≡ start.moment)
+  pub silent : last_step (ending end.outcome) < at_report → end.report ≡ before
+  pub kept : Keeps (asked words start.jobs) end.outcome start.jobs end.jobs
+
+-- memory ran out
+cut_end : (words : List (List ℕ)) (start : Start) (end : End) → Said words start end [] → end.outcome ≡ out.NoMemory → EndsWell words start end
+cut_end words start end said same = inr (record {
   outcome = same;
-  refused = by_refusal (asked words) r.untouched;
-  accepted = by_request (asked words) r.leaves r.sends r.reported;
+  refused = by_refusal (asked words start.jobs) said.refused;
+  shown = by_shown (asked words start.jobs) said.shown;
+  run = by_run (asked words start.jobs) said.run;
 })
   where
-    by_refusal : (a : Result Job Outcome) → IfErr a (λ refusal. (now ≡ start) × (report ≡ [])) → IfErr a (λ refusal. (report ≡ []) × (now ≡ start))
-    by_refusal (Ok job) h = tt
-    by_refusal (Err refusal) h = (h.1, h.0)
+    by_refusal : (a : Result Resolved Outcome) → IfRefused a (λ refusal. Stayed start end []) → IfRefused a (λ refusal. (end.report ≡ []) × (end.now ≡ start.told))
+    by_refusal (Ok accepted) stayed = _
+    by_refusal (Err refusal) stayed = (stayed.report, stayed.now)
 
-    by_request : (a : Result Job Outcome) → IfOk a (λ job. RunLeaves job moment start now outcome) → IfOk a (λ job. Sends job moment start outcome [] report) → IfOk a (λ job. IsSilentBefore [] report job moment start now)
-        → IfOk a (λ job. IsCutIn job moment start (record { report = report; outcome = outcome; now = now }))
-    by_request (Ok job) leaves sends reported = record {
-      leaves = subst (λ (o : Outcome). RunLeaves job moment start now o) same leaves;
-      report = sends.front;
-      reported = reported;
+    by_shown : (a : Result Resolved Outcome) → IfShown a (λ job. Showed job start end []) → IfShown a (λ job. IsCutShown job start end)
+    by_shown (Ok accepted) showed = λ quits. let did = showed quits in record { report = did.shows.front refl; now = did.now }
+    by_shown (Err refusal) showed = _
+
+    by_run : (a : Result Resolved Outcome) → IfRun a (λ job. Did job start end []) → IfRun a (λ job. IsCutIn job start end)
+    by_run (Ok accepted) ran = λ runs. let did = ran runs in record {
+      leaves = subst (λ (o : Outcome). RunLeaves accepted.job start.moment start.told end.now o) same did.leaves;
+      report = did.sends.front;
+      reported = did.reported;
     }
-    by_request (Err refusal) leaves sends reported = tt
+    by_run (Err refusal) ran = _
 
 -- of a run whose report was written: it was carried out, or listed alone
-reported_end : (words : List (List ℕ)) (moment : ℕ) (start now : Told) (outcome : Outcome) (report : List ℕ) (job : Job) → asked words ≡ Ok job → site_refusal job start moment ≡ None → is_reported (ending outcome) ≡ true
-    → IsInMode job outcome → RunLeaves job moment start now outcome → Sends job moment start outcome [] report → IfReported outcome (λ bits. bits ≡ bits_in job start moment) → IfDone outcome (λ bits at. at ≡ moment)
-    → IsRun words moment start (record { report = report; outcome = outcome; now = now })
-reported_end words moment start now (out.Done bits at) report job asks accepted whole mode leaves sends counted begun =
+reported_end : (words : List (List ℕ)) (start : Start) (report : List ℕ) (outcome : Outcome) (now : Told) (jobs : Jobs) (accepted : Resolved) → asked words start.jobs ≡ Ok accepted → accepted.quit ≡ false → site_refusal accepted.job start.told start.moment ≡ None → is_reported (ending outcome) ≡ true
+    → Did accepted.job start (an_end report outcome now jobs) [] → IfDone outcome (λ bits at. at ≡ start.moment) → IsRun words start (an_end report outcome now jobs)
+reported_end words start report (out.Done bits at) now jobs accepted asks runs site whole did begun =
     inr (inl (record {
-      job = job;
-      asks = asks;
-      accepted = accepted;
-      changes = mode.done refl;
-      outcome = ap (λ (m : ℕ). out.Done bits m) begun ∙ ap (λ (b : ℕ). out.Done b moment) counted;
-      report = sends.whole whole;
-      now = leaves.mirrored (mode.done refl) (omega arith);
+      job = accepted.job;
+      asks = record { accepted = accepted; asks = asks; is = refl; runs = runs; site = site };
+      changes = did.mode.done refl;
+      outcome = ap (λ (m : ℕ). out.Done bits m) begun ∙ ap (λ (b : ℕ). out.Done b start.moment) did.bits;
+      report = did.sends.whole whole;
+      now = did.leaves.mirrored (did.mode.done refl) (omega arith);
     }))
-reported_end words moment start now (out.Listed bits) report job asks accepted whole mode leaves sends counted begun =
-    inr (inr (record {
-      job = job;
-      asks = asks;
-      accepted = accepted;
-      lists = mode.listed refl;
-      outcome = ap (λ (b : ℕ). out.Listed b) counted;
-      report = sends.whole whole;
-      now = leaves.listed (mode.listed refl);
-    }))
-reported_end words moment start now other report job asks accepted whole mode leaves sends counted begun = absurd (true≢false (sym whole))
+reported_end words start report (out.Listed bits) now jobs accepted asks runs site whole did begun =
+    inr (inr (inl (record {
+      job = accepted.job;
+      asks = record { accepted = accepted; asks = asks; is = refl; runs = runs; site = site };
+      lists = did.mode.listed refl;
+      outcome = ap (λ (b : ℕ). out.Listed b) did.bits;
+      report = did.sends.whole whole;
+      now = did.leaves.listed (did.mode.listed refl);
+    })))
+reported_end words start report other now jobs accepted asks runs site whole did begun = absurd (true≢false (sym whole))
 
-done_end : (words : List (List ℕ)) (moment : ℕ) (start now : Told) (outcome : Outcome) (report : List ℕ) (job : Job) → Runs words moment start now outcome [] report → asked words ≡ Ok job → site_refusal job start moment ≡ None → is_reported (ending outcome) ≡ true
-    → EndsWell words moment start (an_end report outcome now)
-done_end words moment start now outcome report job r asks accepted done =
-    inl (reported_end words moment start now outcome report job asks accepted done
-    (subst (λ (a : Result Job Outcome). IfOk a (λ q. IsInMode q outcome)) asks r.mode)
-    (subst (λ (a : Result Job Outcome). IfOk a (λ q. RunLeaves q moment start now outcome)) asks r.leaves)
-    (subst (λ (a : Result Job Outcome). IfOk a (λ q. Sends q moment start outcome [] report)) asks r.sends)
-    (subst (λ (a : Result Job Outcome). IfOk a (λ q. IfReported outcome (λ bits. bits ≡ bits_in q start moment))) asks r.bits)
-    r.begun)
-
--- over a site and a report of which nothing fails
-ends : (words : List (List ℕ)) (moment : ℕ) (start now : Told) (outcome : Outcome) (report : List ℕ) → Runs words moment start now outcome [] report
-    → EndsWell words moment start (an_end report outcome now)
-ends words moment start now outcome report r = by_asked (asked words) refl r.expected r.untouched r.leaves
+-- of a job whose text was sent
+shown_end : (words : List (List ℕ)) (start : Start) (end : End) (accepted : Resolved) → asked words start.jobs ≡ Ok accepted → accepted.quit ≡ true → is_reported (ending end.outcome) ≡ true → Showed accepted.job start end [] → IsRun words start end
+shown_end words start end accepted asks quits whole showed = by showed.shows.answer
   where
-    by_asked : (a : Result Job Outcome) → asked words ≡ a → IsExpected (start_refusal a start moment) outcome → IfErr a (λ refusal. (now ≡ start) × (report ≡ [])) → IfOk a (λ job. RunLeaves job moment start now outcome)
-        → EndsWell words moment start (an_end report outcome now)
-    by_asked (Err refusal) e (inl same) untouched leaves =
-        refused_end words moment start now outcome report (ap (λ (a : Result Job Outcome). start_refusal a start moment) e ∙ ap (λ (o : Outcome). Some o) (sym same)) untouched.1 untouched.0
-    by_asked (Err refusal) e (inr memory) untouched leaves = cut_end words moment start now outcome report r memory
-    by_asked (Ok job) e expected untouched leaves = by_site (site_refusal job start moment) refl expected
-      where
-        refused_so : (refusal : Outcome) → site_refusal job start moment ≡ Some refusal → outcome ≡ refusal
-            → EndsWell words moment start (an_end report outcome now)
-        refused_so refusal found same =
-            let early : last_step (ending outcome) < at_copies = subst (λ (o : Outcome). last_step (ending o) < at_copies) (sym same) (refused_early job start moment refusal found) in
-            refused_end words moment start now outcome report (ap (λ (a : Result Job Outcome). start_refusal a start moment) e ∙ found ∙ ap (λ (o : Outcome). Some o) (sym same)) (r.silent (omega (arith, early))) (leaves.unchanged early)
+    not_whole : (o : Outcome) → is_reported (ending o) ≡ false → end.outcome ≡ o → ⊥
+    not_whole o none same = true≢false (sym whole ∙ ap (λ (x : Outcome). is_reported (ending x)) same ∙ none)
 
-        by_site : (found : Option Outcome) → site_refusal job start moment ≡ found → IsExpected found outcome
-            → EndsWell words moment start (an_end report outcome now)
-        by_site None found (inl done) = done_end words moment start now outcome report job r e found done
-        by_site None found (inr memory) = cut_end words moment start now outcome report r memory
-        by_site (Some refusal) found (inl same) = refused_so refusal found same
-        by_site (Some refusal) found (inr memory) = cut_end words moment start now outcome report r memory
+    by : (end.outcome ≡ out.Listed 0) ⊎ (end.outcome ≡ out.SinkFault) ⊎ (end.outcome ≡ out.JobFault) ⊎ (end.outcome ≡ out.NoMemory) → IsRun words start end
+    by (inl listed) = inr (inr (inr (record {
+      accepted = accepted;
+      asks = asks;
+      quits = quits;
+      outcome = listed;
+      report = showed.shows.whole refl whole;
+      now = showed.now;
+    })))
+    by (inr (inl same)) = absurd (not_whole out.SinkFault refl same)
+    by (inr (inr (inl same))) = absurd (not_whole out.JobFault refl same)
+    by (inr (inr (inr same))) = absurd (not_whole out.NoMemory refl same)
+
+ends : (words : List (List ℕ)) (start : Start) (end : End) → Said words start end [] → EndsWell words start end
+ends words start end said = by_asked (asked words start.jobs) refl said.expected said.refused said.shown said.run
+  where
+    refused_end : start_refusal (asked words start.jobs) start.told start.moment ≡ Some end.outcome → Stayed start end [] → EndsWell words start end
+    refused_end refused stayed = inl (inl (record { refused = refused; report = stayed.report; now = stayed.now }))
+
+    by_asked : (a : Result Resolved Outcome) → asked words start.jobs ≡ a → IsExpected (start_refusal a start.told start.moment) end.outcome → IfRefused a (λ refusal. Stayed start end []) → IfShown a (λ job. Showed job start end []) → IfRun a (λ job. Did job start end [])
+        → EndsWell words start end
+    by_asked (Err refusal) e (inl same) stayed showed ran = refused_end (ap (λ (a : Result Resolved Outcome). start_refusal a start.told start.moment) e ∙ ap (λ (o : Outcome). Some o) (sym same)) stayed
+    by_asked (Err refusal) e (inr memory) stayed showed ran = cut_end words start end said memory
+    by_asked (Ok accepted) e expected stayed showed ran = by_quit accepted.quit refl expected
+      where
+        by_quit : (q : Bool) → accepted.quit ≡ q → IsExpected (if q then None else site_refusal accepted.job start.told start.moment) end.outcome → EndsWell words start end
+        by_quit true quits (inl whole) = inl (shown_end words start end accepted e quits whole (showed quits))
+        by_quit true quits (inr memory) = cut_end words start end said memory
+        by_quit false runs awaited = by_site (site_refusal accepted.job start.told start.moment) refl awaited
+          where
+            refused_so : (refusal : Outcome) → site_refusal accepted.job start.told start.moment ≡ Some refusal → end.outcome ≡ refusal → EndsWell words start end
+            refused_so refusal found same =
+                let early : last_step (ending end.outcome) < at_copies = subst (λ (o : Outcome). last_step (ending o) < at_copies) (sym same) (refused_early accepted.job start.told start.moment refusal found) in
+                refused_end
+                (ap (λ (a : Result Resolved Outcome). start_refusal a start.told start.moment) e
+                ∙ ap (λ (q : Bool). if q then None else site_refusal accepted.job start.told start.moment) runs ∙ found ∙ ap (λ (o : Outcome). Some o) (sym same))
+                (record { now = (ran runs).leaves.unchanged early; report = said.silent (omega (arith, early)) })
+
+            by_site : (found : Option Outcome) → site_refusal accepted.job start.told start.moment ≡ found → IsExpected found end.outcome → EndsWell words start end
+            by_site None found (inl done) = inl (reported_end words start end.report end.outcome end.now end.jobs accepted e runs found done (ran runs) said.begun)
+            by_site None found (inr memory) = cut_end words start end said memory
+            by_site (Some refusal) found (inl same) = refused_so refusal found same
+            by_site (Some refusal) found (inr memory) = cut_end words start end said memory
 
 -- a run that began at a moment and with a report, whatever they were called
-pub ends_so : (words : List (List ℕ)) (moment last : ℕ) (start now : Told) (outcome : Outcome) (before report : List ℕ) → last ≡ moment → before ≡ [] → Runs words last start now outcome before report → EndsWell words moment start (an_end report outcome now)
-ends_so words moment last start now outcome before report at none r =
-    ends words moment start now outcome report
-    (subst (λ (b : List ℕ). Runs words moment start now outcome b report) none
-    (subst (λ (m : ℕ). Runs words m start now outcome before report) at r))
+pub ends_so : (words : List (List ℕ)) (moment last : ℕ) (told : Told) (jobs : Jobs) (end : End) (before : List ℕ) → last ≡ moment → before ≡ [] → Said words (start_at told last jobs) end before → Ends words (start_at told moment jobs) end
+ends_so words moment last told jobs end before at none said =
+    let is : Said words (start_at told moment jobs) end [] =
+    subst (λ (b : List ℕ). Said words (start_at told moment jobs) end b) none
+    (subst (λ (m : ℕ). Said words (start_at told m jobs) end before) at said) in
+    record { ends = ends words (start_at told moment jobs) end is; kept = is.kept }
 
--- what is said of accepted words says in which way a run ends
-pub mode_of : (a : Result Job Outcome) (tells : Bool) (told : Told) (moment : ℕ) (outcome : Outcome) → IfOk a (λ job. Answers tells job told moment outcome) → IfOk a (λ job. IsInMode job outcome)
-mode_of (Ok job) tells told moment outcome said = said.mode
-mode_of (Err refusal) tells told moment outcome said = tt
+-- What is said by what words ask for, in these words
 
--- a site that is the one that was handed in tells the same
-pub told_same : (a : Result Job Outcome) (site end : MemSite) (before report : List ℕ) (more : Type 0) → IfErr a (λ refusal. (end ≡ site) × (report ≡ before) × more) → IfErr a (λ refusal. (told_by end ≡ told_by site) × (report ≡ before))
-told_same (Ok job) site end before report more h = tt
-told_same (Err refusal) site end before report more h = (ap told_by h.0, h.1)
+pub run_did : (a : Result Resolved Outcome) (moment : ℕ) (jobs : Jobs) (outcome : Outcome) (old new : Seen) (before report : List ℕ) (p q : Paused) (after : Jobs) → IfRun a (λ job. Mirrors true true job moment outcome old new before report p q) → IfRun a (λ job. Did job (start_at old.told moment jobs) (an_end report outcome new.told after) before)
+run_did (Ok accepted) moment jobs outcome old new before report p q after ran = λ runs.
+    let says = ran runs in
+    record {
+      leaves = says.leaves refl;
+      sends = says.sends refl refl;
+      reported = says.reported refl;
+      mode = says.answers.mode;
+      bits = says.bits refl;
+    }
+run_did (Err refusal) moment jobs outcome old new before report p q after ran = _
+
+pub showed : (a : Result Resolved Outcome) (moment : ℕ) (jobs : Jobs) (outcome : Outcome) (site end : MemSite) (before report : List ℕ) (after : Jobs) (more : Type 0) → IfShown a (λ job. ShowsJob true job outcome before report) → IfShown a (λ job. (end ≡ site) × more) → IfShown a (λ job. Showed job (start_at (told_by site) moment jobs) (an_end report outcome (told_by end) after) before)
+showed (Ok accepted) moment jobs outcome site end before report after more shows rests = λ quits. record { shows = shows quits; now = ap told_by (rests quits).0 }
+showed (Err refusal) moment jobs outcome site end before report after more shows rests = _
+
+pub stayed : (a : Result Resolved Outcome) (moment : ℕ) (jobs : Jobs) (outcome : Outcome) (site end : MemSite) (before report : List ℕ) (after : Jobs) (more : Type 0) → IfRefused a (λ refusal. (end ≡ site) × (report ≡ before) × more) → IfRefused a (λ refusal. Stayed (start_at (told_by site) moment jobs) (an_end report outcome (told_by end) after) before)
+stayed (Ok accepted) moment jobs outcome site end before report after more untouched = _
+stayed (Err refusal) moment jobs outcome site end before report after more untouched = record { now = ap told_by untouched.0; report = untouched.1 }

@@ -1,6 +1,5 @@
 -- How calls and reads are named that fail, and what a run then says.
-use Rattle.std.proofs.Common.{◌≡◌, ◌⊎◌, ℕ, ◌-◌, ◌<◌, ◌≤◌, Bool, true, false, ◌&&◌, eqb, List, [], ◌∷◌, length, take, drop, get_or, Result, Ok, Err, refl, sym, ap, subst, ◌∙◌, arith, true≢false}
-use Rattle.std.specs.Prelude.{IfErr, IfOk}
+use Rattle.std.proofs.Common.{◌≡◌, ℕ, ◌-◌, ◌<◌, ◌≤◌, Bool, true, false, ◌&&◌, eqb, List, [], ◌∷◌, length, take, drop, get_or, ◌⊎◌, inl, inr, Result, Ok, Err, refl, sym, ap, subst, ◌∙◌, arith, true≢false}
 use Rattle.std.proofs.lemmas.Bool.{and_parts, eqb-true}
 use Rattle.std.proofs.lemmas.List.{take_rest}
 use Rattle.rc_tree.specs.Path.{key_of}
@@ -13,15 +12,21 @@ use Rattle.rc_failing.specs.declared.site.FailingSite.{FailingSite}
 use Rattle.rc_failing.specs.Failing.{failures_in, seen_failing}
 use Rattle.rc_failing.specs.Named.{NamesCall, NamesNothing, NamesReads}
 use Rattle.rc_job.specs.declared.job.Job.{Job}
+use Rattle.rc_volume.specs.Waits.{Paused}
+use Rattle.rc_jobfiles.specs.declared.resolving.Resolved.{Resolved}
 use Rattle.rc_run.specs.declared.outcome.Outcome.{Outcome}
-use Rattle.rc_run.specs.Answers.{Answers, IsSilentBefore, RunLeaves, Sends, bits_in}
-use Rattle.rc_run.specs.Outcome.{Causes, IfDone, IfReported, IsOrNoMemory}
-use Rattle.rc_run.specs.Words.{asked}
+use Rattle.rc_run.specs.declared.outcome.Outcome.TheVariants.{JobFault, SinkFault}
+use Rattle.rc_run.specs.Keeping.{Keeps, ShowsJob}
+use Rattle.rc_run.specs.Mirroring.{Mirrors}
+use Rattle.rc_run.specs.Outcome.{CausesInSink, CausesInStore, IfDone, IsOrFault, IsOrNoMemory}
+use Rattle.rc_run.specs.Words.{IfRefused, IfRun, IfShown, asked}
+use Rattle.rc_sitetext.specs.SiteText.{Jobs}
 use Rattle.rc_drillwords.specs.declared.reading.FailingCall.{FailingCall}
 use Rattle.rc_drillwords.specs.declared.reading.FailingReads.{FailingReads}
 use Rattle.drill.specs.Drilling.{EndsBy}
-use Rattle.drill.specs.Runs.{End, IsCutShort, IsRun, IsSetUp, IsUntouched, MayEnd, MayEndIn, NamesAllReads, NamesCalls}
-use Rattle.drill.proofs.Ends.{an_end}
+use Rattle.drill.specs.Finishing.{start_at}
+use Rattle.drill.specs.Runs.{End, Ends, IsSetUp, IsUntouched, MayEnd, MayShow, NamesAllReads, NamesCalls, Start}
+use Rattle.drill.proofs.Ends.{an_end, never}
 
 -- Lists
 
@@ -75,67 +80,87 @@ set_up calls reads site begun mid end fresh behind nothing zero names_calls one 
 
 -- The run
 
--- what a run over such a site says
-pub record Says (words : List (List ℕ)) (last : ℕ) (before after : FailingSite) (told : Told) (outcome : Outcome) (sent report : List ℕ) : Type 0 where
-  pub refused : IfErr (asked words) (λ refusal. IsOrNoMemory refusal outcome)
-  pub untouched : IfErr (asked words) (λ refusal. (told_by after.behind ≡ told) × (report ≡ sent))
-  pub answers : IfOk (asked words) (λ job. Answers true job told last outcome)
-  pub cause : IfOk (asked words) (λ job. Causes job.retries outcome (seen_failing before) (seen_failing after))
-  pub leaves : IfOk (asked words) (λ job. RunLeaves job last told (told_by after.behind) outcome)
-  pub bits : IfOk (asked words) (λ job. IfReported outcome (λ bits. bits ≡ bits_in job told last))
+-- what a run over such a site says, whose report and job files do not fail
+pub record Says (words : List (List ℕ)) (last : ℕ) (before after : FailingSite) (outcome : Outcome) (sent report : List ℕ) (old new : Jobs) (p q : Paused) : Type 0 where
+  pub refused : IfRefused (asked words old) (λ refusal. IsOrFault refusal outcome)
+  pub untouched : IfRefused (asked words old) (λ refusal. (told_by after.behind ≡ told_by before.behind) × (report ≡ sent))
+  pub shown : IfShown (asked words old) (λ job. ShowsJob true job outcome sent report)
+  pub rests : IfShown (asked words old) (λ job. told_by after.behind ≡ told_by before.behind)
+  pub run : IfRun (asked words old) (λ job. Mirrors true true job last outcome (seen_failing before) (seen_failing after) sent report p q)
   pub begun : IfDone outcome (λ bits at. at ≡ last)
-  pub sends : IfOk (asked words) (λ job. Sends job last told outcome sent report)
-  pub reported : IfOk (asked words) (λ job. IsSilentBefore sent report job last told (told_by after.behind))
+  pub kept : Keeps (asked words old) outcome old new
+  pub sink : CausesInSink outcome 0 0
+  pub store : CausesInStore outcome 0 0
 
-may_end_so : (calls : List FailingCall) (reads : List FailingReads) (words : List (List ℕ)) (moment : ℕ) (before after : FailingSite) (start : Told) (outcome : Outcome) (report : List ℕ) → IsSetUp calls reads start before → Says words moment before after start outcome [] report
-    → MayEnd calls reads words moment start (an_end report outcome (told_by after.behind))
-may_end_so calls reads words moment before after start outcome report set says = record {
+no_sink_fault : (outcome : Outcome) → CausesInSink outcome 0 0 → outcome ≡ SinkFault → ⊥
+no_sink_fault outcome cause same = never (subst (λ (o : Outcome). CausesInSink o 0 0) same cause).1
+
+no_store_fault : (outcome : Outcome) → CausesInStore outcome 0 0 → outcome ≡ JobFault → ⊥
+no_store_fault outcome cause same = never (subst (λ (o : Outcome). CausesInStore o 0 0) same cause).1
+
+may_end_so : (calls : List FailingCall) (reads : List FailingReads) (words : List (List ℕ)) (moment : ℕ) (before after : FailingSite) (told : Told) (outcome : Outcome) (report : List ℕ) (old new : Jobs) (p q : Paused) → IsSetUp calls reads told before → Says words moment before after outcome [] report old new p q
+    → MayEnd calls reads words (start_at told moment old) (an_end report outcome (told_by after.behind) new)
+may_end_so calls reads words moment before after told outcome report old new p q set says = record {
   before = before;
   set_up = set;
   after = after;
   now = refl;
+  waited_before = p;
+  waited_after = q;
   moment_is = says.begun;
-  refused = by_refusal (asked words) says.refused says.untouched;
-  accepted = by_request (asked words) says.answers says.cause says.leaves says.bits says.sends says.reported;
+  reported = no_sink_fault outcome says.sink;
+  stored = no_store_fault outcome says.store;
+  kept = says.kept;
+  refused = by_refusal (asked words old) says.refused says.untouched;
+  shown = by_shown (asked words old) says.shown says.rests;
+  run = says.run;
 }
   where
-    by_refusal : (a : Result Job Outcome) → IfErr a (λ refusal. IsOrNoMemory refusal outcome) → IfErr a (λ refusal. (told_by after.behind ≡ start) × (report ≡ [])) → IfErr a (λ refusal. IsUntouched refusal start (an_end report outcome (told_by after.behind)))
-    by_refusal (Ok job) one two = tt
-    by_refusal (Err refusal) one two = record { outcome = one; report = two.1; now = two.0 }
+    or_memory : (refusal : Outcome) → IsOrFault refusal outcome → IsOrNoMemory refusal outcome
+    or_memory refusal (inl same) = inl same
+    or_memory refusal (inr (inl memory)) = inr memory
+    or_memory refusal (inr (inr failed)) = absurd (no_store_fault outcome says.store failed)
 
-    by_request : (a : Result Job Outcome) → IfOk a (λ job. Answers true job start moment outcome) → IfOk a (λ job. Causes job.retries outcome (seen_failing before) (seen_failing after)) → IfOk a (λ job. RunLeaves job moment start (told_by after.behind) outcome)
-        → IfOk a (λ job. IfReported outcome (λ bits. bits ≡ bits_in job start moment)) → IfOk a (λ job. Sends job moment start outcome [] report) → IfOk a (λ job. IsSilentBefore [] report job moment start (told_by after.behind))
-        → IfOk a (λ job. MayEndIn job moment before after start (an_end report outcome (told_by after.behind)))
-    by_request (Ok job) answers cause leaves bits sends reported = record { answers = answers; cause = cause; leaves = leaves; bits = bits; sends = sends; reported = reported }
-    by_request (Err refusal) answers cause leaves bits sends reported = tt
+    by_refusal : (a : Result Resolved Outcome) → IfRefused a (λ refusal. IsOrFault refusal outcome) → IfRefused a (λ refusal. (told_by after.behind ≡ told_by before.behind) × (report ≡ []))
+        → IfRefused a (λ refusal. IsUntouched refusal (start_at told moment old) (an_end report outcome (told_by after.behind) new))
+    by_refusal (Ok accepted) one two = _
+    by_refusal (Err refusal) one two = record { outcome = or_memory refusal one; report = two.1; now = two.0 ∙ set.fresh.reads }
 
--- whatever the moment, the start and the report were called
-pub may_end : (calls : List FailingCall) (reads : List FailingReads) (words : List (List ℕ)) (moment last : ℕ) (before after : FailingSite) (start : Told) (outcome : Outcome) (sent report : List ℕ) → last ≡ moment → sent ≡ [] → IsSetUp calls reads start before → Says words last before after (told_by before.behind) outcome sent report
-    → MayEnd calls reads words moment start (an_end report outcome (told_by after.behind))
-may_end calls reads words moment last before after start outcome sent report at none set says =
-    may_end_so calls reads words moment before after start outcome report set
-    (subst (λ (told : Told). Says words moment before after told outcome [] report) set.fresh.reads
-    (subst (λ (b : List ℕ). Says words moment before after (told_by before.behind) outcome b report) none
-    (subst (λ (m : ℕ). Says words m before after (told_by before.behind) outcome sent report) at says)))
+    by_shown : (a : Result Resolved Outcome) → IfShown a (λ job. ShowsJob true job outcome [] report) → IfShown a (λ job. told_by after.behind ≡ told_by before.behind)
+        → IfShown a (λ job. MayShow job (start_at told moment old) (an_end report outcome (told_by after.behind) new))
+    by_shown (Ok accepted) shows rests = λ quits. record { shows = shows quits; now = rests quits ∙ set.fresh.reads }
+    by_shown (Err refusal) shows rests = _
+
+-- whatever the moment and the report were called
+pub may_end : (calls : List FailingCall) (reads : List FailingReads) (words : List (List ℕ)) (moment last : ℕ) (before after : FailingSite) (told : Told) (outcome : Outcome) (sent report : List ℕ) (old new : Jobs) (p q : Paused) → last ≡ moment → sent ≡ [] → IsSetUp calls reads told before → Says words last before after outcome sent report old new p q
+    → MayEnd calls reads words (start_at told moment old) (an_end report outcome (told_by after.behind) new)
+may_end calls reads words moment last before after told outcome sent report old new p q at none set says =
+    may_end_so calls reads words moment before after told outcome report old new p q set
+    (subst (λ (b : List ℕ). Says words moment before after outcome b report old new p q) none
+    (subst (λ (m : ℕ). Says words m before after outcome sent report old new p q) at says))
 
 -- a site that is the one that was handed in tells the same
-pub failing_same : (a : Result Job Outcome) (site end : FailingSite) (before report : List ℕ) (more : Type 0) → IfErr a (λ refusal. (end ≡ site) × (report ≡ before) × more) → IfErr a (λ refusal. (told_by end.behind ≡ told_by site.behind) × (report ≡ before))
-failing_same (Ok job) site end before report more h = tt
-failing_same (Err refusal) site end before report more h = (ap (λ (s : FailingSite). told_by s.behind) h.0, h.1)
+pub refused_same : (a : Result Resolved Outcome) (site end : FailingSite) (before report : List ℕ) (more : Type 0) → IfRefused a (λ refusal. (end ≡ site) × (report ≡ before) × more) → IfRefused a (λ refusal. (told_by end.behind ≡ told_by site.behind) × (report ≡ before))
+refused_same (Ok accepted) site end before report more h = _
+refused_same (Err refusal) site end before report more h = (ap (λ (s : FailingSite). told_by s.behind) h.0, h.1)
+
+pub shown_same : (a : Result Resolved Outcome) (site end : FailingSite) (more : Type 0) → IfShown a (λ job. (end ≡ site) × more) → IfShown a (λ job. told_by end.behind ≡ told_by site.behind)
+shown_same (Ok accepted) site end more h = λ quits. ap (λ (s : FailingSite). told_by s.behind) (h quits).0
+shown_same (Err refusal) site end more h = _
 
 -- Both
 
 abbrev names_none : List FailingCall → List FailingReads → Bool
 names_none calls reads = eqb (length calls) 0 && eqb (length reads) 0
 
-pub ends_whole : (calls : List FailingCall) (reads : List FailingReads) (words : List (List ℕ)) (moment : ℕ) (start : Told) (end : End) → names_none calls reads ≡ true → IsRun words moment start end ⊎ IsCutShort words moment start end → EndsBy calls reads words moment start end
-ends_whole [] [] words moment start end none ends = ends
-ends_whole [] (r ∷ reads) words moment start end none ends =
+pub ends_whole : (calls : List FailingCall) (reads : List FailingReads) (words : List (List ℕ)) (start : Start) (end : End) → names_none calls reads ≡ true → Ends words start end → EndsBy calls reads words start end
+ends_whole [] [] words start end none ends = ends
+ends_whole [] (r ∷ reads) words start end none ends =
     absurd (omega (arith, eqb-true (length (r ∷ reads)) 0 (and_parts (eqb (length {A = FailingCall} []) 0) (eqb (length (r ∷ reads)) 0) none).1))
-ends_whole (c ∷ calls) reads words moment start end none ends =
+ends_whole (c ∷ calls) reads words start end none ends =
     absurd (omega (arith, eqb-true (length (c ∷ calls)) 0 (and_parts (eqb (length (c ∷ calls)) 0) (eqb (length reads) 0) none).0))
 
-pub ends_failing : (calls : List FailingCall) (reads : List FailingReads) (words : List (List ℕ)) (moment : ℕ) (start : Told) (end : End) → names_none calls reads ≡ false → MayEnd calls reads words moment start end → EndsBy calls reads words moment start end
-ends_failing [] [] words moment start end some ends = absurd (true≢false some)
-ends_failing [] (r ∷ reads) words moment start end some ends = ends
-ends_failing (c ∷ calls) reads words moment start end some ends = ends
+pub ends_failing : (calls : List FailingCall) (reads : List FailingReads) (words : List (List ℕ)) (start : Start) (end : End) → names_none calls reads ≡ false → MayEnd calls reads words start end → EndsBy calls reads words start end
+ends_failing [] [] words start end some ends = absurd (true≢false some)
+ends_failing [] (r ∷ reads) words start end some ends = ends
+ends_failing (c ∷ calls) reads words start end some ends = ends

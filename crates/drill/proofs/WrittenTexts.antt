@@ -1,5 +1,5 @@
 -- What a drill wrote.
-use Rattle.std.proofs.Common.{◌≡◌, ◌⊎◌, ℕ, ◌<◌, ◌≤◌, Bool, true, false, List, [], ◌∷◌, ◌++◌, length, Result, Ok, Err, inl, inr, refl, sym, ap, subst, ◌∙◌, arith, true≢false}
+use Rattle.std.proofs.Common.{◌≡◌, ◌⊎◌, ℕ, ◌<◌, Bool, true, false, List, [], ◌∷◌, ◌++◌, length, Result, Ok, Err, inl, inr, refl, sym, ap, ◌∙◌, arith, true≢false}
 use Rattle.std.specs.Prelude.{OnErr, OnOk}
 use Rattle.std.specs.Str.{IsUtf8, chars, encode_utf8_all}
 use Rattle.std.proofs.lemmas.Str.{encodes-chars}
@@ -77,13 +77,13 @@ sent_files true (Err e) jobs text old new some whole front =
 
 -- what is printed of the end of a run is one of its texts
 pub printed_one : (tells : Bool) (printing : Printing) (files : List JobText) → AreFiles printing.jobs files → (failed : Type 0) (old new : List ℕ) (status : ℕ)
-    → OfSome tells new (λ x. WritesOut failed old (drill_text printing.digests printing.moment files (end_of printing.finished)) (status_of printing.finished.outcome) x status)
+    → OfSome tells new (λ x. WritesOut failed old (drill_text printing.digests printing.moment files (end_of printing.finished printing.jobs)) (status_of printing.finished.outcome) x status)
     → OfSome tells new (λ x. WritesOne (IsPrinted printing) failed old x status)
 printed_one tells printing files filed failed old new status some = (
   some.0,
   some.1,
   record {
-    printed = drill_text printing.digests printing.moment files (end_of printing.finished);
+    printed = drill_text printing.digests printing.moment files (end_of printing.finished printing.jobs);
     answer = status_of printing.finished.outcome;
     is_printed = record { files = files; filed = filed; text = refl; is = refl };
     writes = some.2;

@@ -1,9 +1,8 @@
 -- What a drill prints of its arguments and a text, and what it answers.
-use Rattle.std.specs.Prelude.{◌≡◌, ◌⊎◌, ℕ, ◌<◌, ◌≤◌, Bool, true, false, List, [], ◌++◌, length, map, chars, Option, Some, None}
+use Rattle.std.specs.Prelude.{◌≡◌, ◌⊎◌, ℕ, ◌<◌, ◌≤◌, Bool, true, List, [], ◌++◌, length, map, chars, Option, Some, None}
 use Rattle.std.specs.Option.{is_some}
 use Rattle.std.specs.FinMap.{empty}
 use Rattle.rc_volume.specs.declared.site.Side.TheVariants.{Source, Target}
-use Rattle.rc_volume.specs.Site.{Told}
 use Rattle.rc_volume.specs.Streams.{AppendsFront}
 use Rattle.rc_generate.specs.Generated.{IsGenerated}
 use Rattle.rc_generate.specs.Generated as generated
@@ -15,7 +14,7 @@ use Rattle.rc_drillwords.specs.declared.reading.FailingCall.{FailingCall}
 use Rattle.rc_drillwords.specs.declared.reading.FailingReads.{FailingReads}
 use Rattle.rc_drillwords.specs.Asking.{calls_asked, first_bad, number_asked, reads_asked, words_in}
 use Rattle.drill.specs.declared.begin.TheConstants.{GREATEST_TEXT}
-use Rattle.drill.specs.Runs.{End, IsCutShort, IsRun, MayEnd, Start}
+use Rattle.drill.specs.Runs.{End, Ends, MayEnd, Start}
 use Rattle.drill.specs.Printed.{Shows, argument_line, input_line, text_line}
 
 -- Arguments
@@ -68,10 +67,10 @@ IsRefusedAt text line kind = IsTooLong text line kind ⊎ HasFault text line kin
 
 -- Ends
 
--- how a run ends: by the rules, or for want of memory; where calls or reads of its site are to fail, as it may there
-abbrev pub EndsBy : List FailingCall → List FailingReads → List (List ℕ) → ℕ → Told → End → Type 0
-EndsBy [] [] words moment start end = IsRun words moment start end ⊎ IsCutShort words moment start end
-EndsBy calls reads words moment start end = MayEnd calls reads words moment start end
+-- how a run ends; where calls or reads of its site are to fail, as it may there
+abbrev pub EndsBy : List FailingCall → List FailingReads → List (List ℕ) → Start → End → Type 0
+EndsBy [] [] words start end = Ends words start end
+EndsBy calls reads words start end = MayEnd calls reads words start end
 
 -- Drills
 
@@ -103,8 +102,8 @@ pub record Runs (args : List (List ℕ)) (text printed : List ℕ) (status : ℕ
   pub good : first_bad args ≡ None
   pub start : Start
   pub begins : Begins (number_asked args) text start
-  pub shows : Shows (is_some (number_asked args)) start
-      (EndsBy (calls_asked args) (reads_asked args) (run_words args) start.moment start.told) printed status
+  pub shows : Shows (is_some (number_asked args)) start.moment
+      (EndsBy (calls_asked args) (reads_asked args) (run_words args) start) printed status
 
 -- what a drill is about to print and to answer
 abbrev pub Prints : Type 0 → List (List ℕ) → List ℕ → List ℕ → ℕ → Type 0

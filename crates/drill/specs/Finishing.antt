@@ -13,17 +13,21 @@ use Rattle.drill.specs.declared.output.Printing.{Printing}
 use Rattle.drill.specs.Printed.{Shows, drill_text, input_line, text_line}
 use Rattle.rc_sitetext.specs.SiteText.{AreFiles, JobText, Jobs}
 use Rattle.rc_volume.specs.declared.sink.SinkErr.{SinkErr}
+use Rattle.rc_volume.specs.Site.{Told}
 use Rattle.rc_volume.specs.Streams.{AppendsFront}
 use Rattle.rc_run.specs.Outcome.{status_of}
 use Rattle.drill.specs.Runs.{End, Start}
 
+abbrev pub start_at : Told → ℕ → Jobs → Start
+start_at told moment jobs = record { told = told; moment = moment; jobs = jobs }
+
 -- what a file has a run begin on
 abbrev pub start_of : SiteFile → Start
-start_of file = record { told = told_by file.site; moment = file.moment; jobs = file.jobs }
+start_of file = start_at (told_by file.site) file.moment file.jobs
 
--- how the run ended, with what its site tells
-abbrev pub end_of : Finished → End
-end_of finished = record { report = finished.report; outcome = finished.outcome; now = told_by finished.site }
+-- how the run ended, with what its site and its job files tell
+abbrev pub end_of : Finished → Jobs → End
+end_of finished jobs = record { report = finished.report; outcome = finished.outcome; now = told_by finished.site; jobs = jobs }
 
 -- Texts
 
@@ -40,18 +44,18 @@ pub record Sent (tells : Bool) (result : Result Unit SinkErr) (text old new : Li
 pub record IsPrinted (printing : Printing) (printed : List ℕ) (answer : ℕ) : Type 0 where
   pub files : List JobText
   pub filed : AreFiles printing.jobs files
-  pub text : printed ≡ drill_text printing.digests printing.moment files (end_of printing.finished)
+  pub text : printed ≡ drill_text printing.digests printing.moment files (end_of printing.finished printing.jobs)
   pub is : answer ≡ status_of printing.finished.outcome
 
 -- Runs
 
 -- how a run of what is asked ends on a start
 abbrev pub EndsAsked : Asked → Start → End → Type 0
-EndsAsked asked start end = EndsBy asked.calls.items asked.reads.items (texts asked.words.items) start.moment start.told end
+EndsAsked asked start end = EndsBy asked.calls.items asked.reads.items (texts asked.words.items) start end
 
 -- what is printed and answered of it
 abbrev pub ShowsAsked : Asked → Start → List ℕ → ℕ → Type 0
-ShowsAsked asked start printed status = Shows (is_some asked.number) start (EndsAsked asked start) printed status
+ShowsAsked asked start printed status = Shows (is_some asked.number) start.moment (EndsAsked asked start) printed status
 
 -- Stops
 

@@ -2,11 +2,10 @@
 use Rattle.std.specs.Prelude.{◌≡◌, ℕ, Bool, true, false, List, [], ◌∷◌, ◌++◌, codes, decimal, encode_utf8_all}
 use Rattle.hex.specs.Hex.{encode_lower}
 use Rattle.sha2.specs.Sha256.{sha256}
-use Rattle.rc_volume.specs.Site.{Told}
 use Rattle.rc_run.specs.declared.outcome.Outcome.{Outcome}
 use Rattle.rc_run.specs.Outcome.{line_of, status_of}
 use Rattle.rc_sitetext.specs.SiteText.{AreFiles, JobText, site_text}
-use Rattle.drill.specs.Runs.{End, Start}
+use Rattle.drill.specs.Runs.{End}
 
 -- a line and its end; nothing for the empty text
 abbrev pub whole_line : List ℕ → List ℕ
@@ -29,13 +28,13 @@ end_text true text = digest_line text
 abbrev pub drill_text : Bool → ℕ → List JobText → End → List ℕ
 drill_text digests moment files end = end.report ++ status_lines end.outcome ++ end_text digests (site_text moment end.now files)
 
--- what is printed and answered of a run that ended so; its job files are those of the start
-pub record Shows (digests : Bool) (start : Start) (ended : End → Type 0) (printed : List ℕ) (status : ℕ) : Type 0 where
+-- what is printed and answered of a run at a moment that ended so
+pub record Shows (digests : Bool) (moment : ℕ) (ended : End → Type 0) (printed : List ℕ) (status : ℕ) : Type 0 where
   pub end : End
   pub ends : ended end
   pub files : List JobText
-  pub filed : AreFiles start.jobs files
-  pub text : printed ≡ drill_text digests start.moment files end
+  pub filed : AreFiles end.jobs files
+  pub text : printed ≡ drill_text digests moment files end
   pub answer : status ≡ status_of end.outcome
 
 -- the line of a bad argument, by its number

@@ -10,8 +10,8 @@ ghost use Rattle.rc_failing.specs.Failing.{seen_failing};
 ghost use Rattle.rc_failing.specs.Named.{NamesCall};
 ghost use Rattle.rc_jobfiles.specs.Ask.{texts};
 ghost use Rattle.drill.specs.Drilling.{EndsBy};
-ghost use Rattle.drill.specs.Finishing.{end_of};
-ghost use Rattle.drill.specs.Runs.{IsCutShort, IsRun, IsSetUp, MayEnd, NamesAllReads, NamesCalls};
+ghost use Rattle.drill.specs.Finishing.{end_of, start_at};
+ghost use Rattle.drill.specs.Runs.{Ends, IsSetUp, MayEnd, NamesAllReads, NamesCalls};
 
 use rc_drillwords::{Asked, FailingCall, FailingReads};
 use rc_failing::FailingSite;
@@ -38,9 +38,9 @@ pub(crate) fn mirror(
 ) -> Result<Finished, NoMemory>
     requires moment { moment ≤ GREATEST_MOMENT }
     requires fresh { IsFreshSite (told_by site) (seen_by site) }
-    ensures ends { IfOk result (λ finished. EndsBy asked.now.calls.items asked.now.reads.items
-        (texts asked.now.words.items) moment (told_by site) (end_of finished)) }
-    ensures jobs { jobs.new ≡ jobs.old }
+    ensures { IfOk result (λ finished. EndsBy asked.now.calls.items asked.now.reads.items
+        (texts asked.now.words.items) (start_at (told_by site) moment jobs.old)
+        (end_of finished jobs.new)) }
 {
     if fails_nowhere(asked) {
         Ok(mirror_whole(alloc, &asked.words, site, moment, jobs))
@@ -67,9 +67,8 @@ fn mirror_whole(
     jobs: &mut MemJobs,
 ) -> Finished
     requires { moment ≤ GREATEST_MOMENT }
-    ensures ends { IsRun (texts words.now) moment (told_by site) (end_of result)
-        ⊎ IsCutShort (texts words.now) moment (told_by site) (end_of result) }
-    ensures jobs { jobs.new ≡ jobs.old }
+    ensures { Ends (texts words.now) (start_at (told_by site) moment jobs.old)
+        (end_of result jobs.new) }
 {
     let mut report = MemSink::new(alloc);
     let mut clock = FixedClock::new(moment);
@@ -91,9 +90,9 @@ fn mirror_failing(
 ) -> Result<Finished, NoMemory>
     requires moment { moment ≤ GREATEST_MOMENT }
     requires fresh { IsFreshSite (told_by site) (seen_by site) }
-    ensures ends { IfOk result (λ finished. MayEnd asked.now.calls.items asked.now.reads.items
-        (texts asked.now.words.items) moment (told_by site) (end_of finished)) }
-    ensures jobs { jobs.new ≡ jobs.old }
+    ensures { IfOk result (λ finished. MayEnd asked.now.calls.items asked.now.reads.items
+        (texts asked.now.words.items) (start_at (told_by site) moment jobs.old)
+        (end_of finished jobs.new)) }
 {
     match failing_site(alloc, asked, site) {
         Ok(failing) => Ok(mirror_set_up(alloc, &asked.words, failing, moment, jobs)),
@@ -111,10 +110,10 @@ fn mirror_set_up(
     jobs: &mut MemJobs,
 ) -> Finished
     requires { moment ≤ GREATEST_MOMENT }
-    ensures ends { (calls : List FailingCall) (reads : List FailingReads) (start : Told) →
+    ensures { (calls : List FailingCall) (reads : List FailingReads) (start : Told) →
         IsSetUp calls reads start site →
-        MayEnd calls reads (texts words.now) moment start (end_of result) }
-    ensures jobs { jobs.new ≡ jobs.old }
+        MayEnd calls reads (texts words.now) (start_at start moment jobs.old)
+        (end_of result jobs.new) }
 {
     let mut report = MemSink::new(alloc);
     let mut clock = FixedClock::new(moment);

@@ -20,8 +20,8 @@ use rc_tree::NoMemory;
 use rc_volume::{Sink, SinkErr};
 use std::alloc::Global;
 
-/// What a run leaves to be printed: how it ended, the moment and the job files of its start, and whether of the site text
-/// only the digest is printed.
+/// What a run leaves to be printed: how it ended, with its job files, the moment of its start, and whether of the site
+/// text only the digest is printed.
 #[derive(Drop)]
 pub(crate) struct Printing {
     pub(crate) digests: bool,
@@ -124,7 +124,7 @@ pub(crate) fn write_finished<K: Sink>(alloc: Global, out: &mut K, printing: &Pri
 fn write_end<K: Sink>(alloc: Global, out: &mut K, printing: &Printing) -> Result<(), SinkErr>
     ensures sent { OfFiles printing.now.jobs (λ files. Sent K.tells result
         (drill_text printing.now.digests printing.now.moment files
-        (end_of printing.now.finished)) (K.received out.old) (K.received out.new)) }
+        (end_of printing.now.finished printing.now.jobs)) (K.received out.old) (K.received out.new)) }
     ensures cause { RisesIf (sink_failed result) (K.faults out.old) (K.faults out.new) }
 {
     have_some_spelling(&printing.jobs);

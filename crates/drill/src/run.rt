@@ -106,11 +106,10 @@ fn run_file<K: Sink>(alloc: Global, asked: &Asked, file: SiteFile, out: &mut K) 
 fn finish(alloc: Global, asked: &Asked, file: SiteFile) -> Result<Printing, NoMemory>
     requires moment { file.moment ≤ GREATEST_MOMENT }
     requires fresh { IsFreshSite (told_by file.site) (seen_by file.site) }
-    ensures ends { IfOk result
-        (λ printing. EndsAsked asked.now (start_of file) (end_of printing.finished)) }
+    ensures ends { IfOk result (λ printing.
+        EndsAsked asked.now (start_of file) (end_of printing.finished printing.jobs)) }
     ensures digests { IfOk result (λ printing. printing.digests ≡ is_some asked.now.number) }
     ensures moment { IfOk result (λ printing. printing.moment ≡ file.moment) }
-    ensures jobs { IfOk result (λ printing. printing.jobs ≡ file.jobs) }
 {
     let SiteFile {
         site,

@@ -1,1 +1,14 @@
-mod Whole
+pub mod Blocks
+pub mod Gathering
+pub mod Lexed
+pub mod Names
+pub mod Picks
+pub mod Readings
+pub mod Saved
+pub mod SavedBlocks
+pub mod SavedJob
+pub mod SettingBlocks
+pub mod Stretches
+pub mod Valued
+pub mod Whole
+pub mod Worded

@@ -1,4 +1,10 @@
 pub mod Ask
+pub mod Built
 pub mod Merge
+pub mod Parts
+pub mod Picking
+pub mod Reading
 pub mod Refusal
+pub mod Resolving
 pub mod Roots
+pub mod Saved

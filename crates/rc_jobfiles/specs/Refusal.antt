@@ -36,9 +36,10 @@ refusal_of quit job =
     else if is_too_long job then Some 15
     else None
 
--- both roots are given and do not overlap, and what is moved is copied with its bytes
-pub record IsWhole (job : Job) : Type 0 where
-  pub source : is_some job.source ≡ true
-  pub target : is_some job.target ≡ true
+-- no root is lacking, they do not overlap, what is moved is copied with its bytes, and the text is not too long
+pub record IsWhole (quit : Bool) (job : Job) : Type 0 where
+  pub source : lacks job.source job.no_source quit ≡ false
+  pub target : lacks job.target job.no_target quit ≡ false
   pub apart : roots_overlap job.source job.target ≡ false
   pub moved : excludes job ≡ false
+  pub short : is_too_long job ≡ false

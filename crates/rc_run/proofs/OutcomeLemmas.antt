@@ -114,3 +114,8 @@ job_chars place kind file p k text some =
     ∙ ap (λ (cs : List ℕ). cs ++ chars file) (chars-IsAscii _ front)
     ∙ append_assoc (word_front place kind) (codes " of job file ") (chars file)
     ∙ ap (λ (cs : List ℕ). word_front place kind ++ cs) (sym (in_file_some (chars file) file (encodes-chars file text) some))
+
+-- a line that ends with the name of a job file
+pub chars_named : {A E : Type 0} (r : Result (String A) E) (front name : List ℕ) (o p : Outcome) → o ≡ p → chars front ++ name ≡ line_of p → IfOk r (λ line. chars (string_bytes line) ≡ chars front ++ name) → IfOk r (λ line. chars (string_bytes line) ≡ line_of o)
+chars_named (Ok line) front name o p e is h = h ∙ is ∙ ap line_of (sym e)
+chars_named (Err x) front name o p e is h = h

@@ -49,7 +49,7 @@ use Rattle.rc_run.specs.declared.outcome.Outcome.TheVariants.{NotYet}
 use Rattle.rc_run.specs.declared.outcome.Unbuilt.TheVariants as unbuilt
 use Rattle.rc_run.specs.Answers.{Answers, IsInMode, IsSilentBefore, RunLeaves, Sends, copying_of, is_empty, report_by, report_in, site_refusal, uncopied, unfinished, unplanned}
 use Rattle.rc_run.specs.Goal.{IsMirrored, items_at}
-use Rattle.rc_run.specs.Outcome.{Ending, EndsAt, at_copies, at_end, at_limits, at_listing, at_record, at_report, at_words, cause_of, ending, failed, finished, first_step, is_reported, last_step, listed, out_of_memory, refused, unreported}
+use Rattle.rc_run.specs.Outcome.{Ending, EndsAt, at_copies, at_end, at_limits, at_listing, at_record, at_report, at_words, cause_of, ending, failed, finished, first_step, is_reported, last_step, listed, out_of_memory, refused, unreported, unstored}
 use Rattle.rc_run.specs.Under.{AreReleased, AreReleasing, AreUnderWay, HaveGoals, IsLasting, IsLastingOn, IsReleasing, ReleasesLast, changes_any}
 use Rattle.rc_run.proofs.PassLemmas.{ArePassable}
 
@@ -68,6 +68,7 @@ AppendsFront-all old bytes new e = (length bytes, omega arith, e ∙ ap (λ (bs 
 pub EndsAt-first : (from to : ℕ) (holds : Type 0) (e : Ending) → EndsAt from to holds e → first_step e ≤ to
 EndsAt-first from to holds (refused step) h = h.1
 EndsAt-first from to holds (failed step part) h = h.1
+EndsAt-first from to holds unstored h = h.1
 EndsAt-first from to holds unreported h = h.1
 EndsAt-first from to holds finished h = h.1
 EndsAt-first from to holds listed h = h.1
@@ -76,6 +77,7 @@ EndsAt-first from to holds out_of_memory h = omega arith
 pub EndsAt-last : (from to : ℕ) (holds : Type 0) (e : Ending) → EndsAt from to holds e → from ≤ last_step e
 EndsAt-last from to holds (refused step) h = h.0
 EndsAt-last from to holds (failed step part) h = h.0
+EndsAt-last from to holds unstored h = h.0
 EndsAt-last from to holds unreported h = h.0
 EndsAt-last from to holds finished h = h.0
 EndsAt-last from to holds listed h = h.0
@@ -85,6 +87,7 @@ EndsAt-last from to holds out_of_memory h = h
 pub EndsAt-unreported : (from to : ℕ) (holds : Type 0) (e : Ending) → to < at_end → EndsAt from to holds e → is_reported e ≡ true → ⊥
 EndsAt-unreported from to holds (refused step) l h same = absurd (true≢false (sym same))
 EndsAt-unreported from to holds (failed step part) l h same = absurd (true≢false (sym same))
+EndsAt-unreported from to holds unstored l h same = absurd (true≢false (sym same))
 EndsAt-unreported from to holds unreported l h same = absurd (true≢false (sym same))
 EndsAt-unreported from to holds finished l h same = absurd (omega (arith, h.1, l))
 EndsAt-unreported from to holds listed l h same = absurd (omega (arith, h.1, l))
@@ -101,6 +104,7 @@ EndsAt-mode job from to holds o early h = record {
 pub EndsAt-refused : (from to : ℕ) (holds : Type 0) (e : Ending) (step : ℕ) → EndsAt from to holds e → e ≡ refused step → holds
 EndsAt-refused from to holds (refused at) step h same = h.2
 EndsAt-refused from to holds (failed at part) step h same = cc
+EndsAt-refused from to holds unstored step h same = cc
 EndsAt-refused from to holds unreported step h same = cc
 EndsAt-refused from to holds finished step h same = cc
 EndsAt-refused from to holds listed step h same = cc
@@ -112,7 +116,7 @@ answers_so tells job told moment from to holds o h mode behind refusal notes wit
     let first = EndsAt-first from to holds (ending o) h in
     let last = EndsAt-last from to holds (ending o) h in
     record {
-      behind_words = omega (arith, behind, last);
+      behind_words = inl (omega (arith, behind, last));
       mode = mode;
       refusal = λ step same. refusal (EndsAt-refused from to holds (ending o) step h same);
       no_record = λ l. notes (omega (arith, l, first));

@@ -18,9 +18,7 @@ use Rattle.rc_volume.proofs.WaitLemmas.{waits_never, waits_then}
 use Rattle.rc_run.specs.Answers.{uncopied, unfinished}
 use Rattle.rc_volume.specs.Site.{Seen}
 use Rattle.rc_run.specs.declared.outcome.Outcome.{Outcome}
-use Rattle.rc_run.specs.declared.outcome.Outcome.TheVariants.{NoMemory}
-use Rattle.rc_run.specs.Words.{asked, IfAccepted}
-use Rattle.rc_run.specs.Outcome.{WaitsFor, Ending, cause_of, ending, failed, finished, listed, out_of_memory, refused, tries_at, unreported, at_listing}
+use Rattle.rc_run.specs.Outcome.{WaitsFor, Ending, cause_of, ending, failed, finished, listed, out_of_memory, refused, tries_at, unreported, unstored, at_listing}
 
 -- a fault is one failure at least
 one_failed : (at : Part) (n : ℕ) (before after : Part → ℕ) → 1 ≤ n → Counts (on at n) before after → (part : Part) → RoseBy (last_fault (on at n) part) (before part) (after part)
@@ -42,6 +40,7 @@ some_tries retries false = omega arith
 pub unwaited : (seconds retries : ℕ) (e : Ending) (before after : Part → ℕ) (p : Paused) → Counts (cause_of retries e) before after → Waits seconds (cause_of retries e) before after p p
 unwaited seconds retries (refused step) before after p counts = waits_never _ _ _ _ _ (λ part. omega (arith, counts part))
 unwaited seconds retries (failed step at) before after p counts = waits_never _ _ _ _ _ (one_failed at (tries_at retries step) before after (some_tries retries (step == at_listing)) counts)
+unwaited seconds retries unstored before after p counts = waits_never _ _ _ _ _ (λ part. omega (arith, counts part))
 unwaited seconds retries unreported before after p counts = waits_never _ _ _ _ _ (λ part. omega (arith, counts part))
 unwaited seconds retries finished before after p counts = waits_never _ _ _ _ _ (λ part. omega (arith, counts part))
 unwaited seconds retries listed before after p counts = waits_never _ _ _ _ _ (λ part. omega (arith, counts part))
@@ -73,32 +72,3 @@ pass_waits seconds retries finish_err.NoMemory before after p q waits = waits
 pub copy_waits : (seconds retries : ℕ) (e : CopyErr) (before after : Part → ℕ) (p : Paused) → Counts (copy_cause {T = Unit {0}} (Err e)) before after → Waits seconds (cause_of retries (ending (uncopied e))) before after p p
 copy_waits seconds retries (copy_err.Failed side) before after p counts = waits_never _ _ _ _ _ (one_failed (part_for side) 1 before after (omega arith) counts)
 copy_waits seconds retries copy_err.NoMemory before after p counts = unwaited_free seconds before after p counts
-
--- Words that are accepted
-
--- what holds of the job that was read
-pub accepted_so : (words : List (List ℕ)) (read : Result Job Outcome) (job : Job) (holds : Job → Type 0) → (read ≡ asked words) ⊎ (read ≡ Err NoMemory) → read ≡ Ok job → holds job → IfAccepted words holds
-accepted_so words read job holds (inl same) is held = subst (λ (r : Result Job Outcome). IfOk r holds) (sym is ∙ same) held
-accepted_so words read job holds (inr none) is held = absurd (differ (sym is ∙ none))
-  where
-    differ : Ok job ≡ Err NoMemory → ⊥
-    differ e = cc
-
--- where memory is wanting before anything is done
-
-abbrev error_in : Result Job Outcome → Outcome
-error_in (Ok job) = NoMemory
-error_in (Err outcome) = outcome
-
-still_by : (wanted read : Result Job Outcome) (outcome : Outcome) (seen : Seen) (p : Paused) → (read ≡ wanted) ⊎ (read ≡ Err NoMemory) → read ≡ Err outcome → IfOk wanted (λ job. WaitsFor job.wait job.retries outcome seen seen p p)
-still_by (Err refusal) read outcome seen p said is = _
-still_by (Ok job) read outcome seen p (inl same) is = differ (sym same ∙ is)
-  where
-    differ : Ok job ≡ Err outcome → WaitsFor job.wait job.retries outcome seen seen p p
-    differ e = cc
-still_by (Ok job) read outcome seen p (inr none) is =
-    subst (λ (o : Outcome). WaitsFor job.wait job.retries o seen seen p p) (ap error_in (sym none ∙ is))
-    (unwaited_free job.wait seen.faults seen.faults p (λ part. omega arith))
-
-pub still : (words : List (List ℕ)) (read : Result Job Outcome) (outcome : Outcome) (seen : Seen) (p : Paused) → (read ≡ asked words) ⊎ (read ≡ Err NoMemory) → read ≡ Err outcome → IfAccepted words (λ job. WaitsFor job.wait job.retries outcome seen seen p p)
-still words read outcome seen p said is = still_by (asked words) read outcome seen p said is

@@ -2,6 +2,7 @@
 use Rattle.std.specs.Prelude.{◌≡◌, ◌⊎◌, ℕ, ◌≤◌, ◌<◌, Bool, true, false, List, [], ◌∷◌, ◌++◌, ◌||◌, Option, Some, None, option_map, Result, Ok, Err, if◌then◌else◌}
 use Rattle.rc_class.specs.declared.plan.Plan.{Plan}
 use Rattle.rc_job.specs.declared.job.Job.{Job}
+use Rattle.rc_jobfiles.specs.declared.resolving.Resolved.{Resolved}
 use Rattle.rc_copy.specs.declared.copying.Copying.{Copying}
 use Rattle.rc_copy.specs.declared.err.CopyErr.{CopyErr}
 use Rattle.rc_copy.specs.declared.err.CopyErr.TheVariants as copy_err
@@ -18,7 +19,7 @@ use Rattle.rc_volume.specs.declared.want.Want.{Want}
 use Rattle.rc_volume.specs.Site.{Told}
 use Rattle.rc_volume.specs.Streams.{AppendsFront}
 use Rattle.rc_run.specs.declared.outcome.Outcome.{Outcome}
-use Rattle.rc_run.specs.declared.outcome.Outcome.TheVariants.{Done, Listed, NotYet, ListFault, TooMany, TooBig, SiteFault, NoMemory}
+use Rattle.rc_run.specs.declared.outcome.Outcome.TheVariants.{Done, Listed, JobFault, NotYet, ListFault, TooMany, TooBig, SiteFault, NoMemory}
 use Rattle.rc_run.specs.declared.outcome.Unbuilt.TheVariants as unbuilt
 use Rattle.rc_run.specs.Goal.{IsMirrored, items_at}
 use Rattle.rc_run.specs.Outcome.{IfDone, IsOrNoMemory, at_copies, at_limits, at_record, at_report, at_roots, at_words, ending, finished, first_step, is_reported, last_step, listed, refused}
@@ -53,9 +54,9 @@ site_refusal job told moment =
     then option_map unplanned (limit_in job told moment)
     else Some (NotYet unbuilt.Record)
 
--- why a run is refused; nothing where it is not
-abbrev pub start_refusal : Result Job Outcome → Told → ℕ → Option Outcome
-start_refusal (Ok job) told moment = site_refusal job told moment
+-- why a run is refused; nothing where it is not, and where its job is only shown
+abbrev pub start_refusal : Result Resolved Outcome → Told → ℕ → Option Outcome
+start_refusal (Ok accepted) told moment = if accepted.quit then None else site_refusal accepted.job told moment
 start_refusal (Err refusal) told moment = Some refusal
 
 -- a plan is listed exactly where the job says so
@@ -65,8 +66,8 @@ pub record IsInMode (job : Job) (outcome : Outcome) : Type 0 where
 
 -- what an answer to words that are accepted says of the site, where it tells
 pub record Answers (tells : Bool) (job : Job) (told : Told) (moment : ℕ) (outcome : Outcome) : Type 0 where
-  -- it is no refusal of words
-  pub behind_words : at_words < last_step (ending outcome)
+  -- it is no refusal of words; the store may fail that is to keep the job
+  pub behind_words : (at_words < last_step (ending outcome)) ⊎ (outcome ≡ JobFault)
   -- a refusal is that of the site
   pub refusal : (step : ℕ) → ending outcome ≡ refused step → tells ≡ true → site_refusal job told moment ≡ Some outcome
   -- the plan is listed, or carried out, as the job says

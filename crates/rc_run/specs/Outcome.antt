@@ -10,7 +10,7 @@ use Rattle.rc_volume.specs.Faults.{Cause, Counts, RisesIf, RoseBy, free, on, par
 use Rattle.rc_volume.specs.Site.{Seen}
 use Rattle.rc_volume.specs.Waits.{Paused, Waits}
 use Rattle.rc_run.specs.declared.outcome.Outcome.{Outcome}
-use Rattle.rc_run.specs.declared.outcome.Outcome.TheVariants.{Done, Listed, Usage, NotYet, RootFault, ListFault, TooMany, TooBig, RecordFault, SiteFault, SinkFault, NoMemory}
+use Rattle.rc_run.specs.declared.outcome.Outcome.TheVariants.{Done, Listed, Usage, JobMissing, JobDeep, JobRound, JobFault, NotYet, RootFault, ListFault, TooMany, TooBig, RecordFault, SiteFault, SinkFault, NoMemory}
 use Rattle.rc_run.specs.declared.outcome.Unbuilt.{Unbuilt}
 use Rattle.rc_run.specs.declared.outcome.Unbuilt.TheVariants as unbuilt
 
@@ -46,6 +46,8 @@ pub data Ending : Type 0 where
   refused : ℕ → Ending
   -- a part failed at a step
   failed : ℕ → Part → Ending
+  -- the store of job files failed
+  unstored : Ending
   -- the report could not be written
   unreported : Ending
   -- all is done
@@ -65,6 +67,10 @@ abbrev pub ending : Outcome → Ending
 ending (Done bits moment) = finished
 ending (Listed bits) = listed
 ending (Usage file place kind) = refused at_words
+ending (JobMissing name) = refused at_words
+ending (JobDeep name) = refused at_words
+ending (JobRound name) = refused at_words
+ending JobFault = unstored
 ending (NotYet what) = refused (unbuilt_step what)
 ending (RootFault side) = failed at_roots (part_for side)
 ending RecordFault = failed at_record part.Record
@@ -81,6 +87,7 @@ ending NoMemory = out_of_memory
 abbrev pub first_step : Ending → ℕ
 first_step (refused step) = step
 first_step (failed step part) = step
+first_step unstored = at_words
 first_step unreported = at_report
 first_step finished = at_end
 first_step listed = at_end
@@ -90,6 +97,7 @@ first_step out_of_memory = 0
 abbrev pub last_step : Ending → ℕ
 last_step (refused step) = step
 last_step (failed step part) = step
+last_step unstored = at_words
 last_step unreported = at_report
 last_step finished = at_end
 last_step listed = at_end
@@ -103,6 +111,7 @@ tries_at retries step = if step == at_listing then retries + 1 else 1
 abbrev pub cause_of : ℕ → Ending → Cause
 cause_of retries (refused step) = free
 cause_of retries (failed step part) = on part (tries_at retries step)
+cause_of retries unstored = free
 cause_of retries unreported = free
 cause_of retries finished = free
 cause_of retries listed = free
@@ -133,6 +142,29 @@ is_unreported other = false
 -- what an outcome says of the sink's count
 abbrev pub CausesInSink : Outcome → ℕ → ℕ → Type 0
 CausesInSink outcome before now = RisesIf (is_unreported (ending outcome)) before now
+
+-- whether the store of job files failed
+abbrev pub is_unstored : Ending → Bool
+is_unstored unstored = true
+is_unstored other = false
+
+-- what an outcome says of the store's count
+abbrev pub CausesInStore : Outcome → ℕ → ℕ → Type 0
+CausesInStore outcome before now = RisesIf (is_unstored (ending outcome)) before now
+
+abbrev pub unstored_in : {T : Type 0} → Result T Outcome → Bool
+unstored_in (Ok value) = false
+unstored_in (Err outcome) = is_unstored (ending outcome)
+
+-- a file that was to be kept may be as it was: the store failed, or memory was wanting at whatever step
+abbrev pub may_be_old : Ending → Bool
+may_be_old unstored = true
+may_be_old out_of_memory = true
+may_be_old other = false
+
+abbrev pub may_be_old_in : {T : Type 0} → Result T Outcome → Bool
+may_be_old_in (Ok value) = false
+may_be_old_in (Err outcome) = may_be_old (ending outcome)
 
 -- the exit status of an ending without bits
 abbrev pub status_at : Ending → ℕ
@@ -165,14 +197,23 @@ is_reported other = false
 abbrev pub EndsAt : ℕ → ℕ → Type 0 → Ending → Type 0
 EndsAt from to holds (refused step) = (from ≤ step) × (step ≤ to) × holds
 EndsAt from to holds (failed step part) = (from ≤ step) × (step ≤ to)
+EndsAt from to holds unstored = (from ≤ at_words) × (at_words ≤ to)
 EndsAt from to holds unreported = (from ≤ at_report) × (at_report ≤ to)
 EndsAt from to holds finished = (from ≤ at_end) × (at_end ≤ to)
 EndsAt from to holds listed = (from ≤ at_end) × (at_end ≤ to)
 EndsAt from to holds out_of_memory = from ≤ at_end
 
+-- it comes at the words, or memory is wanting
+abbrev pub IsAtWords : Outcome → Type 0
+IsAtWords outcome = EndsAt at_words at_words (Unit {0}) (ending outcome)
+
 -- this, or want of memory
 abbrev pub IsOrNoMemory : Outcome → Outcome → Type 0
 IsOrNoMemory wanted outcome = (outcome ≡ wanted) ⊎ (outcome ≡ NoMemory)
+
+-- this, want of memory, or a fault of the store of job files
+abbrev pub IsOrFault : Outcome → Outcome → Type 0
+IsOrFault wanted outcome = (outcome ≡ wanted) ⊎ (outcome ≡ NoMemory) ⊎ (outcome ≡ JobFault)
 
 -- Lines
 
@@ -195,6 +236,10 @@ abbrev pub line_of : Outcome → List ℕ
 line_of (Done bits moment) = []
 line_of (Listed bits) = []
 line_of (Usage file place kind) = codes "ERROR: usage U" ++ decimal kind ++ codes " at word " ++ decimal place ++ in_file file
+line_of (JobMissing name) = codes "ERROR: job file missing: " ++ name
+line_of (JobDeep name) = codes "ERROR: job file too deep: " ++ name
+line_of (JobRound name) = codes "ERROR: job file names itself: " ++ name
+line_of JobFault = codes "ERROR: job store fault"
 line_of (NotYet what) = codes "ERROR: not built yet: " ++ decimal (unbuilt_number what)
 line_of (RootFault side) = codes "ERROR: root fault: " ++ side_name side
 line_of (ListFault side) = codes "ERROR: listing fault: " ++ side_name side

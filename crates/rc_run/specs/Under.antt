@@ -83,8 +83,8 @@ IsLastingOn side items log tree = changes_any side items ≡ true → IsOnlyTree
 abbrev pub IsLasting : List Item → Seen → Type 0
 IsLasting items seen = (side : Side) → IsLastingOn side items seen.log (tree_of seen.told side)
 
--- the source is changed behind the target alone: there was a moment at which the target had its goals, and a stop left of
--- it nothing else, and all calls since then are on the source
+-- the source is changed behind the target alone: there was a moment at which the target had its goals (a stop left of it
+-- nothing else, where an item changes the target), and all calls since then are on the source
 pub record IsReleasing (copying : Copying) (items : List Item) (start : Told) (log : List Event) (now : Seen) : Type 0 where
   pub moment : List Event
   pub before : LogsOn part.Target log moment

@@ -4,6 +4,7 @@
 //! words and the two trees on which it started, and that the report and the bits are those of the same decisions.
 #![tactic(auto)]
 
+mod keeping;
 mod outcome;
 mod run;
 mod trees;

@@ -29,6 +29,14 @@ pub enum Outcome {
     /// The words were refused: of the command line where `file` is empty, and else of that job file; the word's number
     /// from 1, or 0 where no one word is at fault; and the kind of the refusal.
     Usage { file: Text, place: u64, kind: u8 },
+    /// The store has no job file of this name.
+    JobMissing { name: Text },
+    /// The job file of this name would be the ninth within another.
+    JobDeep { name: Text },
+    /// The job file of this name is named while it is read.
+    JobRound { name: Text },
+    /// The store of job files failed.
+    JobFault,
     /// What was asked is not built yet.
     NotYet { what: Unbuilt },
     /// A root could not be bound.
@@ -75,6 +83,10 @@ fn line_of(alloc: Global, outcome: &Outcome) -> Result<String, AllocError>
         Outcome::Done { .. } => String::from_str(alloc, ""),
         Outcome::Listed { .. } => String::from_str(alloc, ""),
         Outcome::Usage { file, place, kind } => usage_line(alloc, file, *place, *kind),
+        Outcome::JobMissing { name } => job_line(alloc, "ERROR: job file missing: ", name),
+        Outcome::JobDeep { name } => job_line(alloc, "ERROR: job file too deep: ", name),
+        Outcome::JobRound { name } => job_line(alloc, "ERROR: job file names itself: ", name),
+        Outcome::JobFault => String::from_str(alloc, "ERROR: job store fault"),
         Outcome::NotYet { what } => not_yet_line(alloc, *what),
         Outcome::RootFault { side } => fault_line(alloc, "root", *side),
         Outcome::ListFault { side } => fault_line(alloc, "listing", *side),
@@ -107,6 +119,16 @@ fn word_line(alloc: Global, place: u64, kind: u8) -> Result<String, AllocError>
         ≡ codes "ERROR: usage U" ++ decimal kind ++ codes " at word " ++ decimal place) }
 {
     format!(in alloc; "ERROR: usage U{kind} at word {place}")
+}
+
+// The line of a job file that is not read, which this text begins.
+fn job_line(alloc: Global, front: &str, name: &Text) -> Result<String, AllocError>
+    ensures { IfOk result
+        (λ line. chars (string_bytes line) ≡ chars front.now ++ name.now) }
+{
+    let mut line = String::from_str(alloc, front)?;
+    line.push_str(name.text())?;
+    Ok(line)
 }
 
 fn not_yet_line(alloc: Global, what: Unbuilt) -> Result<String, AllocError>

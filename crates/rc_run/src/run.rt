@@ -6,6 +6,7 @@ ghost use Rattle.rc_copy.specs.Copying.{copies_any};
 ghost use Rattle.rc_copy.specs.Reading.{wants_of};
 ghost use Rattle.rc_filter.specs.Acts.{copies_bytes};
 ghost use Rattle.rc_jobfiles.specs.Ask.{texts};
+ghost use Rattle.rc_jobfiles.specs.Resolving.{names_no_file};
 ghost use Rattle.rc_plan.specs.Plan.{limit_in, start_in, AreTrees, IsMadeFor};
 ghost use Rattle.rc_volume.specs.declared.site.Part.{Part};
 ghost use Rattle.rc_volume.specs.Faults.{free, last_count, RoseBy};
@@ -14,12 +15,14 @@ ghost use Rattle.rc_volume.specs.Streams.{AppendsFront};
 ghost use Rattle.rc_volume.specs.Waits.{Waits};
 ghost use Rattle.rc_run.specs.Answers.{bits_by, bits_in, copying_of, is_empty, report_by, reported, site_refusal, start_refusal, unplanned, Answers, IsExpected, IsInMode, IsNamed, IsOpened, IsSilentBefore, RunLeaves, Sends};
 ghost use Rattle.rc_run.specs.Goal.{items_at, read_by, wants_in};
-ghost use Rattle.rc_run.specs.Outcome.{at_copies, at_end, at_limits, at_listing, at_record, at_report, at_roots, cause_of, ending, first_step, is_reported, last_step, run_cause, Causes, CausesInSink, EndsAt, IfDone, IfReported, IsOrNoMemory, FailedBy, WaitsFor};
+ghost use Rattle.rc_run.specs.Keeping.{Keeps, SavesNothing, ShowsJob};
+ghost use Rattle.rc_run.specs.Mirroring.{Mirrors};
+ghost use Rattle.rc_run.specs.Outcome.{at_words, at_copies, at_end, at_limits, at_listing, at_record, at_report, at_roots, cause_of, ending, first_step, is_reported, last_step, run_cause, Causes, CausesInSink, EndsAt, IfDone, IfReported, IsOrFault, CausesInStore, FailedBy, WaitsFor};
 ghost use Rattle.rc_run.specs.Under.{ChangesTrees, IsLasting, ReleasesLast};
-ghost use Rattle.rc_run.specs.Words.{asked, binding_of, root_text, IfAccepted, IfRefused};
+ghost use Rattle.rc_run.specs.Words.{asked, binding_of, root_text, AreKnown, IfRefused, IfRun, IfShown};
 
+use crate::keeping::{ask, show};
 use crate::trees::change_unless_listed;
-use crate::words::read_words;
 use crate::{Outcome, Unbuilt};
 use rc_class::Plan;
 use rc_filter::plans_have_the_planned_items;
@@ -39,9 +42,10 @@ pub struct Ended<S> {
 
 /// Mirrors the source of a site onto its target, alone: with no threads and no locks. It returns.
 ///
-/// The words are the two roots and switches behind them. Where the site tells its trees, `Done` says that both are now
-/// the goals of the trees at the start, at every key, and that the report and the bits are those of the same decisions;
-/// under `/L` nothing is changed, and `Listed` has the report and the bits of what would be done.
+/// The words are the two roots and switches behind them, with the job files that they name. Where the site tells its
+/// trees, `Done` says that both are now the goals of the trees at the start, at every key, and that the report and the
+/// bits are those of the same decisions; under `/L` nothing is changed, and `Listed` has the report and the bits of what
+/// would be done. `/SAVE` keeps the job in the store, and `/QUIT` sends its text and ends with `Listed`.
 /// Each fault comes only where the count of its part rose in this call. Words that are refused touch nothing.
 ///
 /// A listing, and what makes, removes and changes entries, is tried again as often as the job says; a copy is not.
@@ -54,85 +58,75 @@ pub fn mirror_alone<S: Site, J: JobStore, K: Sink, C: Clock>(
     clock: &mut C,
 ) -> Ended<S>
     // Words that are refused.
-    ensures refused { IfRefused (texts words.now)
-        (λ refusal. IsOrNoMemory refusal result.outcome) }
-    ensures untouched { IfRefused (texts words.now) (λ _.
+    ensures refused { AreKnown J.tells (texts words.now) →
+        IfRefused (asked (texts words.now) (J.files jobs.old))
+        (λ refusal. IsOrFault refusal result.outcome) }
+    ensures untouched { AreKnown J.tells (texts words.now) →
+        IfRefused (asked (texts words.now) (J.files jobs.old)) (λ _.
         (result.site ≡ site) × (sink.new ≡ sink.old) × (clock.new ≡ clock.old)) }
-    ensures jobs { jobs.new ≡ jobs.old }
+    // Also where it is not known what they ask for, a refusal at the words and a fault of the store touch nothing.
+    ensures stopped { last_step (ending result.outcome) ≤ at_words →
+        (result.site ≡ site) × (sink.new ≡ sink.old) × (clock.new ≡ clock.old) }
 
-    // Words that are accepted: what is answered, and why.
-    ensures answers { IfAccepted (texts words.now) (λ job.
-        Answers S.tells job (S.view site).told (C.last clock.new) result.outcome) }
-    ensures cause { IfAccepted (texts words.now) (λ job.
-        Causes job.retries result.outcome (S.view site) (S.view result.site)) }
-    ensures tried { S.tells ≡ true → IfAccepted (texts words.now) (λ job.
-        copies_any (items_at job (S.view site).told (C.last clock.new)) ≡ false →
-        FailedBy (job.retries + 1) result.outcome (S.view site) (S.view result.site)) }
-    ensures sink_cause { CausesInSink result.outcome (K.faults sink.old) (K.faults sink.new) }
-    ensures complete { S.tells ≡ true →
+    // What becomes of the store of job files.
+    ensures kept { J.tells ≡ true →
+        Keeps (asked (texts words.now) (J.files jobs.old)) result.outcome
+        (J.files jobs.old) (J.files jobs.new) }
+    ensures idle { names_no_file (texts words.now) ≡ true →
+        SavesNothing (asked (texts words.now) (J.files jobs.old)) → jobs.new ≡ jobs.old }
+    ensures store_cause { CausesInStore result.outcome (J.faults jobs.old) (J.faults jobs.new) }
+
+    // Words that are accepted with `/QUIT`: the job is shown, and the site rests.
+    ensures shown { AreKnown J.tells (texts words.now) →
+        IfShown (asked (texts words.now) (J.files jobs.old)) (λ job.
+        ShowsJob K.tells job result.outcome (K.received sink.old) (K.received sink.new)) }
+    ensures rests { AreKnown J.tells (texts words.now) →
+        IfShown (asked (texts words.now) (J.files jobs.old)) (λ _.
+        (result.site ≡ site) × (clock.new ≡ clock.old)) }
+
+    // Words that are accepted without it: what is answered, and what becomes of the site.
+    ensures mirrors { AreKnown J.tells (texts words.now) →
+        IfRun (asked (texts words.now) (J.files jobs.old)) (λ job.
+        Mirrors S.tells K.tells job (C.last clock.new) result.outcome
+        (S.view site) (S.view result.site)
+        (K.received sink.old) (K.received sink.new)
+        (C.paused clock.old) (C.paused clock.new)) }
+
+    // Where nothing fails, each refusal comes where it is due, and else all is done.
+    ensures complete { S.tells ≡ true → AreKnown J.tells (texts words.now) →
         ((part : Part) →
         RoseBy 1 ((S.view site).faults part) ((S.view result.site).faults part) → ⊥) →
         (RoseBy 1 (K.faults sink.old) (K.faults sink.new) → ⊥) →
+        (RoseBy 1 (J.faults jobs.old) (J.faults jobs.new) → ⊥) →
         IsExpected
-        (start_refusal (asked (texts words.now)) (S.view site).told (C.last clock.new))
+        (start_refusal (asked (texts words.now) (J.files jobs.old))
+        (S.view site).told (C.last clock.new))
         result.outcome }
 
-    // What becomes of the site.
-    ensures leaves { S.tells ≡ true → IfAccepted (texts words.now) (λ job.
-        RunLeaves job (C.last clock.new)
-        (S.view site).told (S.view result.site).told result.outcome) }
-    // Where an item changes a side, a stop behind all changes leaves of it what reads, and nothing else. The source is
-    // changed behind the target alone, and the record is not touched.
-    ensures lasting { S.tells ≡ true → IfAccepted (texts words.now) (λ job.
-        job.list_only ≡ false → at_report ≤ first_step (ending result.outcome) →
-        IsLasting (items_at job (S.view site).told (C.last clock.new))
-        (S.view result.site)) }
-    ensures in_order { S.tells ≡ true → IfAccepted (texts words.now) (λ job.
-        ReleasesLast (copying_of job (C.last clock.new))
-        (items_at job (S.view site).told (C.last clock.new))
-        (S.view site) (S.view result.site)) }
-    // Under `/L` no changing call is made.
-    ensures listed { S.tells ≡ true → IfAccepted (texts words.now) (λ job.
-        job.list_only ≡ true → (S.view result.site).log ≡ (S.view site).log) }
-    ensures opened { S.tells ≡ true → IfAccepted (texts words.now) (λ job.
-        IsOpened result.outcome (read_by job (C.last clock.new) (S.view site).told)
-        (S.view site).opened (S.view result.site).opened) }
+    // Whatever the words.
     ensures unopened { last_step (ending result.outcome) < at_copies →
         (S.view result.site).opened ≡ (S.view site).opened }
-    ensures bound { IfAccepted (texts words.now) (λ job.
-        IsNamed result.outcome (binding_of job (C.last clock.new))
-        (S.view site).bound (S.view result.site).bound) }
-
-    // What is reported.
-    ensures bits { S.tells ≡ true → IfAccepted (texts words.now) (λ job.
-        IfReported result.outcome
-        (λ bits. bits ≡ bits_in job (S.view site).told (C.last clock.new))) }
     ensures moment { IfDone result.outcome (λ _ moment. moment ≡ C.last clock.new) }
-    ensures sends { S.tells ≡ true → K.tells ≡ true → IfAccepted (texts words.now) (λ job.
-        Sends job (C.last clock.new) (S.view site).told result.outcome
-        (K.received sink.old) (K.received sink.new)) }
     ensures silent { last_step (ending result.outcome) < at_report →
         K.received sink.new ≡ K.received sink.old }
-    ensures reported { S.tells ≡ true → IfAccepted (texts words.now) (λ job.
-        IsSilentBefore (K.received sink.old) (K.received sink.new)
-        job (C.last clock.new) (S.view site).told (S.view result.site).told) }
-
-    // The clock is read once behind the words. It waits before a retry alone, the seconds of the job.
+    ensures sink_cause { CausesInSink result.outcome (K.faults sink.old) (K.faults sink.new) }
+    // The clock is read once, for a job that is run, and otherwise left alone.
     ensures clock { C.tells ≡ true → C.always clock.new ≡ C.always clock.old }
     ensures read { (C.reads clock.new ≡ min (C.reads clock.old + 1) last_count)
-        ⊎ ((C.reads clock.new ≡ C.reads clock.old)
-        × (first_step (ending result.outcome) < at_roots)) }
-    ensures waits { IfAccepted (texts words.now) (λ job.
-        WaitsFor job.wait job.retries result.outcome (S.view site) (S.view result.site)
-        (C.paused clock.old) (C.paused clock.new)) }
-    ensures no_pause { IfAccepted (texts words.now) (λ job.
-        job.retries ≡ 0 → C.paused clock.new ≡ C.paused clock.old) }
+        ⊎ (clock.new ≡ clock.old) }
+    ensures read_once { AreKnown J.tells (texts words.now) →
+        IfRun (asked (texts words.now) (J.files jobs.old)) (λ _.
+        at_roots ≤ first_step (ending result.outcome) →
+        C.reads clock.new ≡ min (C.reads clock.old + 1) last_count) }
 {
     let mut site = site;
-    let _ = jobs;
-    match read_words(alloc, words) {
-        Ok(job) => {
-            let outcome = run(alloc, &job, &mut site, sink, clock);
+    match ask(alloc, words, jobs) {
+        Ok(accepted) if accepted.quit => {
+            let outcome = show(alloc, &accepted.job, sink);
+            Ended { site, outcome }
+        }
+        Ok(accepted) => {
+            let outcome = run(alloc, &accepted.job, &mut site, sink, clock);
             Ended { site, outcome }
         }
         Err(outcome) => Ended { site, outcome },
@@ -149,6 +143,7 @@ fn run<S: Site, K: Sink, C: Clock>(
 ) -> Outcome
     ensures answers { Answers S.tells job.now
         (S.view site.old).told (C.last clock.new) result }
+    ensures behind { at_words < last_step (ending result) }
     ensures cause { Causes job.now.retries result (S.view site.old) (S.view site.new) }
     ensures tried { S.tells ≡ true →
         copies_any (items_at job.now (S.view site.old).told (C.last clock.new)) ≡ false →

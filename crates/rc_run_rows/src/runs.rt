@@ -1,6 +1,7 @@
 //! Runs over sites in memory, and over such on which a call fails.
 
 mod faults;
+mod jobs;
 mod outcomes;
 mod plans;
 mod refusals;

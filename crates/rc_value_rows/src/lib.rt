@@ -1,9 +1,7 @@
-//! Worked rows of the calls on values: names, patterns, dates, words, what they ask for, jobs and classes. They stand apart
-//! from the crates that they call, which are so proved once and not once more for their tests.
+//! Worked rows of the calls on values: names, patterns, dates, words, jobs and classes. They stand apart from the crates
+//! that they call, which are so proved once and not once more for their tests.
 #![tactic(auto)]
 
-#[cfg(test)]
-mod asks;
 #[cfg(test)]
 mod classes;
 #[cfg(test)]

@@ -30,7 +30,7 @@ last_fault (on part.Target n) part.Target = 1
 last_fault (on part.Record n) part.Record = 1
 last_fault cause part = 0
 
--- pauses of so many seconds, each behind a failed call on a side; behind the failure that is answered there is none
+-- pauses of so many seconds: on each side as many as calls of its failed, one fewer where the last of them is answered
 pub record Waits (seconds : ℕ) (cause : Cause) (before after : Part → ℕ) (old new : Paused) : Type 0 where
   pub times : Side → ℕ
   pub failed : (side : Side) → RoseBy (times side + last_fault cause (part_for side)) (before (part_for side)) (after (part_for side))

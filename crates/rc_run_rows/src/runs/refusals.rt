@@ -9,7 +9,7 @@ use std::test::Fail;
 
 const ROOTS: &[&str] = &["SRC", "DST"];
 
-const BAD: &[&str] = &["SRC", "DST", "/QUIT"];
+const BAD: &[&str] = &["SRC", "DST", "/DROP"];
 
 const LISTING: &[&str] = &["SRC", "DST", "/L", "/NJH", "/NJS"];
 

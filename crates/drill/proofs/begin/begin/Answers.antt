@@ -1,4 +1,4 @@
-use Rattle.std.proofs.Common.{subst, sym, refl, List, ℕ, Option, Some}
+use Rattle.std.proofs.Common.{subst, sym, refl, ℕ, Option}
 use Rattle.std.specs.Prelude.{IfErr, IfOk}
 use Rattle.drill.specs.Drilling.{Begins, OfSome}
 use Rattle.drill.specs.Finishing.{IsStop, start_of}

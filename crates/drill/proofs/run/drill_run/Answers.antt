@@ -1,4 +1,4 @@
-use Rattle.std.proofs.Common.{List, ℕ, ◌∙◌, sym}
+use Rattle.std.proofs.Common.{◌∙◌, sym}
 use Rattle.rc_volume.specs.Faults.{RoseBy}
 use Rattle.rc_drillwords.specs.Asking.{spellings}
 use Rattle.drill.proofs.Drills.{argument_drilled, drilled_told, memory_drilled, none_some, reads_unless}

@@ -1,7 +1,7 @@
 use Rattle.std.proofs.Common.{[], codes, refl, arith}
 use Rattle.std.specs.Str.{chars}
-use Rattle.rc_run.specs.declared.outcome.Outcome.TheVariants.{Done, Listed, NotYet, RootFault, ListFault, TooMany, RecordFault, SiteFault, SinkFault, NoMemory}
-use Rattle.rc_run.proofs.OutcomeLemmas.{chars_made, not_yet_chars, root_chars, list_chars, site_chars, too_many_chars}
+use Rattle.rc_run.specs.declared.outcome.Outcome.TheVariants.{Done, Listed, JobMissing, JobDeep, JobRound, JobFault, NotYet, RootFault, ListFault, TooMany, RecordFault, SiteFault, SinkFault, NoMemory}
+use Rattle.rc_run.proofs.OutcomeLemmas.{chars_made, chars_named, not_yet_chars, root_chars, list_chars, site_chars, too_many_chars}
 use Rattle.rc_run.proofs.outcome.line_of.Goals as goal
 
 pub returns-in-Done : goal.returns-in-Done
@@ -11,6 +11,22 @@ returns-in-Done c = chars_made c.from_str.result [] c.args.outcome.now (Done c.i
 pub returns-in-Listed : goal.returns-in-Listed
 unfolding chars
 returns-in-Listed c = chars_made c.from_str-in-Listed.result [] c.args.outcome.now (Listed c.in-Listed.bits) c.in-Listed.is refl c.from_str-in-Listed.ensures.ok
+
+pub returns-in-JobMissing : goal.returns-in-JobMissing
+unfolding chars
+returns-in-JobMissing c = chars_named c.job_line.result (codes "ERROR: job file missing: ") _ c.args.outcome.now (JobMissing c.in-JobMissing.name) c.in-JobMissing.is refl c.job_line.ensures
+
+pub returns-in-JobDeep : goal.returns-in-JobDeep
+unfolding chars
+returns-in-JobDeep c = chars_named c.job_line-in-JobDeep.result (codes "ERROR: job file too deep: ") _ c.args.outcome.now (JobDeep c.in-JobDeep.name) c.in-JobDeep.is refl c.job_line-in-JobDeep.ensures
+
+pub returns-in-JobRound : goal.returns-in-JobRound
+unfolding chars
+returns-in-JobRound c = chars_named c.job_line-in-JobRound.result (codes "ERROR: job file names itself: ") _ c.args.outcome.now (JobRound c.in-JobRound.name) c.in-JobRound.is refl c.job_line-in-JobRound.ensures
+
+pub returns-in-JobFault : goal.returns-in-JobFault
+unfolding chars
+returns-in-JobFault c = chars_made c.from_str-in-JobFault.result (codes "ERROR: job store fault") c.args.outcome.now JobFault c.in-JobFault.is refl c.from_str-in-JobFault.ensures.ok
 
 pub returns-in-NotYet : goal.returns-in-NotYet
 returns-in-NotYet c = chars_made c.not_yet_line.result _ c.args.outcome.now (NotYet c.in-NotYet.what) c.in-NotYet.is (not_yet_chars c.in-NotYet.what) c.not_yet_line.ensures

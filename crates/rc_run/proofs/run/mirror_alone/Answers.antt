@@ -1,13 +1,31 @@
--- What holds of the job that was read; and where memory is wanting at the words, nothing was waited for.
+-- What holds of the job that is run; and a fault at the words says of each job what it is to say.
+use Rattle.std.proofs.Common.{sym, ap, subst}
 use Rattle.rc_jobfiles.specs.Ask.{texts}
-use Rattle.rc_run.proofs.WaitLemmas.{accepted_so, still}
+use Rattle.rc_run.specs.Words.{asked}
+use Rattle.rc_run.proofs.StillLemmas.{still_mirrors}
+use Rattle.rc_run.proofs.WordLemmas.{run_so, run_stopped}
 use Rattle.rc_run.proofs.run.mirror_alone.Goals as goal
 
-pub returns-in-Err-clause-waits : goal.returns-in-Err-clause-waits
-returns-in-Err-clause-waits g c = still (texts c.args.words.now) _ c.in-Err.outcome (g.S.Site.view c.args.site) _ c.read_words.ensures.asked c.in-Err.is
+pub returns-in-Ok-2-clause-mirrors : goal.returns-in-Ok-2-clause-mirrors
+returns-in-Ok-2-clause-mirrors g c = λ known.
+    run_so (asked (texts c.args.words.now) (g.J.JobStore.files c.args.jobs.now)) c.ask.result c.in-Ok.accepted _ (c.ask.ensures.asked known) c.in-Ok.is (record {
+      answers = c.run-outcome.ensures.answers;
+      cause = c.run-outcome.ensures.cause;
+      tried = c.run-outcome.ensures.tried;
+      leaves = c.run-outcome.ensures.leaves;
+      lasting = c.run-outcome.ensures.lasting;
+      in_order = c.run-outcome.ensures.in_order;
+      listed = c.run-outcome.ensures.listed;
+      opened = c.run-outcome.ensures.opened;
+      bound = c.run-outcome.ensures.bound;
+      bits = c.run-outcome.ensures.bits;
+      sends = c.run-outcome.ensures.sends;
+      reported = c.run-outcome.ensures.reported;
+      waits = c.run-outcome.ensures.waits;
+      no_pause = c.run-outcome.ensures.no_pause;
+    })
 
-pub returns-in-Ok-clause-lasting : goal.returns-in-Ok-clause-lasting
-returns-in-Ok-clause-lasting g c = λ tells. accepted_so (texts c.args.words.now) _ c.in-Ok.job _ c.read_words.ensures.asked c.in-Ok.is (c.run-outcome.ensures.lasting tells)
-
-pub returns-in-Ok-clause-in_order : goal.returns-in-Ok-clause-in_order
-returns-in-Ok-clause-in_order g c = λ tells. accepted_so (texts c.args.words.now) _ c.in-Ok.job _ c.read_words.ensures.asked c.in-Ok.is (c.run-outcome.ensures.in_order tells)
+pub returns-in-Err-clause-mirrors : goal.returns-in-Err-clause-mirrors
+returns-in-Err-clause-mirrors g c = λ known.
+    run_stopped (asked (texts c.args.words.now) (g.J.JobStore.files c.args.jobs.now)) c.ask.result c.in-Err.outcome _ (c.ask.ensures.asked known) c.in-Err.is
+    (λ fault job. still_mirrors _ _ job _ c.in-Err.outcome _ _ _ fault)

@@ -1,0 +1,4 @@
+pub mod Codes
+pub mod Columns
+pub mod Rows
+pub mod SideRows
